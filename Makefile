@@ -1,0 +1,20 @@
+# Two commands: `make demo` shows the library at work, `make test` is the whole gate. `make bench` times it against plain C.
+.PHONY: demo test bench clean
+
+demo:
+	@echo "Proving the library (some minutes the first time) .."
+	@log=$$(mktemp); rt check house_table > "$$log" 2>&1 || { cat "$$log"; exit 1; }; rm -f "$$log"
+	@echo "The house:"
+	@bash tools/sample_house.sh list
+	@echo
+	@echo "What House table makes of it (node, target, distance, first hop):"
+	@bash tools/sample_house.sh | target/bin/house_table
+
+test:
+	bash .ci/run
+
+bench:
+	bash bench/run.sh
+
+clean:
+	rm -rf target

@@ -1,0 +1,77 @@
+-- Following first hops reaches the target: law f.
+-- Assumes nothing.
+use mathlib.Core.Path.{_≡_, refl, sym, ap, subst, _∙_}
+use mathlib.Core.Logic.{_⊎_, inl, inr, _≢_}
+use mathlib.Core.Bool.{Bool, true, false}
+use mathlib.Core.List.{List}
+use Prim.Native.Nat.{ℕ, _+_}
+use native.Mathlib.Omega.{arith}
+use lib.Dec.{eqb}
+use borrow.Author.Tests.{eqb-true, eqb-false}
+use Rattle.method.specs.Network.{Net, IsArc, Valid, Positive}
+use Rattle.method.specs.Distance.{via, FirstHop, Right}
+use Rattle.method.specs.Work.{heard}
+use Rattle.method.specs.Steps.{sents, Step, run}
+use Rattle.method.specs.Entries.{known, table, entry}
+use Rattle.method.specs.Laws.{Leads, arrived, hop}
+use Rattle.method.proofs.Numbers.{Among}
+use Rattle.method.proofs.Sent.{Labelled}
+use Rattle.method.proofs.Chains.{own-distance}
+use Rattle.method.proofs.Table.{Has, has-entry}
+use Rattle.method.proofs.Oldest.{labelled-oldest}
+use Rattle.method.proofs.Said.{ok-of, known-filled, filled-known, filled-is-right, hop-zero}
+use Rattle.method.proofs.Descent.{descend}
+
+-- the first hop of node i's entry for y has an entry for y too, nearer by the arc's length
+pub record Onto (net : Net) (bs : List Step) (i y d h : ℕ) : Type 0 where
+  pub len : ℕ
+  pub rest : ℕ
+  pub hop : ℕ
+  pub arc : IsArc (net .arcs) i h len
+  pub there : entry net bs h y ≡ known rest hop
+  pub nearer : d ≡ len + rest
+
+module _ (net : Net) (va : Valid net) (bs : List Step) (y : ℕ) where
+  -- it was filled from a label that the hop had sent
+  sent-by-hop : (i d h : ℕ) → entry net bs i y ≡ known d h → y ≢ i → Has y (table net bs h)
+  sent-by-hop i d h e ne = go (ok-of net va bs i .traced (record { target = y; distance = d; hop = h }) (known-filled net va bs i y d h e))
+    where
+      go : (y ≡ i) ⊎ Labelled y (heard (sents (run net bs)) (run net bs i) h) → Has y (table net bs h)
+      go (inl q) = absurd (ne q)
+      go (inr l) =
+          subst (λ (xs : List ℕ). Among y xs) (ok-of net va bs h .each)
+          (labelled-oldest y (run net bs i .taken h) (run net bs h .node .sent) l)
+
+  pub onto : (i d h : ℕ) → entry net bs i y ≡ known d h → y ≢ i → Onto net bs i y d h
+  onto i d h e ne = go (filled-is-right net va bs i y d h e) (filled-is-right net va bs i y d h e .hop)
+    where
+      go : Right net i y d h → ((y ≡ i) × (h ≡ 0)) ⊎ ((y ≢ i) × FirstHop net i y d h) → Onto net bs i y d h
+      go r (inl a) = absurd (ne (a .0))
+      go r (inr a) =
+          let s = a .1 .starts in
+          let f = has-entry y (table net bs h) (sent-by-hop i d h e ne) in
+          let there : entry net bs h y ≡ known (f .0 .distance) (f .0 .hop) = ap (λ (k : ℕ). entry net bs h k) (f .2) ∙ filled-known net va bs h (f .0) (f .1) in
+          let q = filled-is-right net va bs h y (f .0 .distance) (f .0 .hop) there .distance in
+          let le = q .least (s .rest) (s .chain) in
+          let ge = r .distance .least (s .len + f .0 .distance) (via h (s .len) (f .0 .distance) (s .arc) (q .chain) refl) in
+          record { len = s .len; rest = f .0 .distance; hop = f .0 .hop; arc = s .arc; there = there; nearer = omega (arith, s .sum) }
+
+  pub hops-lead : Positive net → (i d h : ℕ) → entry net bs i y ≡ known d h → Leads net bs y i d
+  hops-lead positive i d h e = descend net positive P back i d h e
+    where
+      P : ℕ → ℕ → Type 0
+      P i d = (h : ℕ) → entry net bs i y ≡ known d h → Leads net bs y i d
+
+      back : (i d : ℕ) → ((j l r : ℕ) → IsArc (net .arcs) i j l → d ≡ l + r → P j r) → P i d
+      back i d ih h e = go (eqb y i) refl
+        where
+          go : (b : Bool) → eqb y i ≡ b → Leads net bs y i d
+          go true q =
+              let s : y ≡ i = eqb-true y i q in
+              let z : h ≡ 0 = hop-zero net va bs i y d h e .1 s in
+              let di = subst (λ (k : ℕ). Right net i k d h) s (filled-is-right net va bs i y d h e) .distance in
+              arrived (sym s) (e ∙ ap (known d) z) (own-distance (net .arcs) i d di)
+          go false q =
+              let o = onto i d h e (eqb-false y i q) in
+              hop h (o .len) (o .rest) e (o .arc) (o .nearer) (omega (arith, o .nearer, positive i h (o .len) (o .arc)))
+              (ih h (o .len) (o .rest) (o .arc) (o .nearer) (o .hop) (o .there))

@@ -1,0 +1,10 @@
+pub mod If
+pub mod Network
+pub mod Distance
+pub mod Message
+pub mod Rules
+pub mod Work
+pub mod Steps
+pub mod Entries
+pub mod Marks
+pub mod Laws
