@@ -1,0 +1,14 @@
+pub mod Refused
+pub mod Sound
+pub mod WithArc
+pub mod LaidOut
+pub mod Packed
+pub mod Header
+pub mod AsList
+pub mod Marks
+pub mod OneMore
+pub mod Whole
+pub mod Answered
+pub mod Gathered
+pub mod Laws
+pub mod Example

@@ -1,0 +1,30 @@
+-- What the refusals are for: an accepted network is one of the method, however it is handed over, and its layout is what the run asks for.
+-- Assumes nothing.
+use Prim.Native.Nat.{ℕ}
+use mathlib.Core.Path.{_≡_}
+use mathlib.Core.List.{List}
+use Rattle.method.specs.Network.{Arc, Net, Accepted}
+use Rattle.method.specs.Network.{house}
+use Rattle.network.specs.Bytes.{nodes, lmax, count, arcs, network, refusal, bytesOf}
+use Rattle.network.specs.ArcList.{listRefusal}
+use Rattle.network.specs.Answer.{answer}
+use Rattle.network.specs.Layout.{netOf, Laid}
+use Rattle.network.specs.declared.Checked.{Checked}
+
+pub record Checks : Type 0 where
+  -- bytes that are not refused mean an accepted network
+  pub bytes-accepted : (s : List ℕ) → refusal s ≡ 0 → Accepted (network s)
+  -- so does an arc list that is not refused
+  pub list-accepted : (n lmax : ℕ) (ar : List Arc) → listRefusal n lmax ar ≡ 0 → Accepted (house n lmax ar)
+  -- the two entries agree: the network of bytes that are not refused is not refused as an arc list
+  pub bytes-as-list : (s : List ℕ) → refusal s ≡ 0 → listRefusal (nodes s) (lmax s) (arcs s 0 (count s)) ≡ 0
+  -- and the bytes of an arc list that is not refused are not refused, and mean the same network
+  pub list-as-bytes : (n lmax : ℕ) (ar : List Arc) → listRefusal n lmax ar ≡ 0
+      → (refusal (bytesOf n lmax ar) ≡ 0) × (network (bytesOf n lmax ar) ≡ house n lmax ar)
+  -- the answer says the refusal
+  pub answer-refusal : (r : ℕ) (net : Net) → answer r net .refusal ≡ r
+  -- an answer that refuses nothing has the network laid out as the run asks: of bytes
+  pub bytes-laid : (s : List ℕ) (c : Checked) → c ≡ answer (refusal s) (network s) → c .refusal ≡ 0 → Laid (c .laid) × (netOf (c .laid) ≡ network s)
+  -- and of an arc list
+  pub list-laid : (n lmax : ℕ) (ar : List Arc) (c : Checked) → c ≡ answer (listRefusal n lmax ar) (house n lmax ar) → c .refusal ≡ 0
+      → Laid (c .laid) × (netOf (c .laid) ≡ house n lmax ar)

@@ -1,0 +1,7 @@
+pub mod Refusal
+pub mod Bytes
+pub mod ArcList
+pub mod Layout
+pub mod Answer
+pub mod Marks
+pub mod Laws
