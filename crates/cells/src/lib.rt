@@ -1,0 +1,209 @@
+// A run's state as one lent array of numbers, a part for each node: loads, and the stores that the rules ask for.
+ghost use mathlib.Core.Path.{_≡_};
+ghost use Prim.Native.Nat.{_+_, _≤_, _<_};
+ghost use lib.ListN.{length};
+ghost use Rattle.method.specs.Message.{finite};
+ghost use Rattle.network.specs.Layout.{lenAt};
+ghost use Rattle.cells.specs.Part.{partSize, stateSize, sentCount, entryCount, targetsAt, cells, sumOf};
+ghost use Rattle.cells.specs.Stores.{upd, Stored, counted, pushed, lengthSent, waited, noted, filled, stopped, begun, zeroed, laidOut, cleared};
+
+pub const PART: usize = 379;
+
+// The places in a part.
+pub const PHASE: usize = 0;
+
+pub const SENT: usize = 1;
+
+pub const ENTRIES: usize = 2;
+
+pub const LP: usize = 3;
+
+pub const LAST: usize = 4;
+
+pub const WAITS: usize = 5;
+
+pub const DELIVERED: usize = 6;
+
+pub const TAKEN: usize = 23;
+
+pub const SUMS: usize = 40;
+
+pub const MARKS: usize = 57;
+
+pub const TARGETS: usize = 74;
+
+pub const DISTANCES: usize = 90;
+
+pub const HOPS: usize = 106;
+
+pub const MESSAGES: usize = 122;
+
+// The places in an accepted network.
+pub const NODES: usize = 0;
+
+pub const LMAX: usize = 1;
+
+pub const ARCS: usize = 2;
+
+pub const LENGTHS: usize = 3;
+
+pub const TAILS: usize = 292;
+
+pub const HEADS: usize = 532;
+
+// More than any sum.
+pub const NO_SUM: usize = 65535;
+
+// A number of node i's part.
+pub fn get(s: &[u16], i: usize, o: usize) -> usize
+    requires { ⌜ (i < 17) × (o < partSize) × (length (now s) ≡ stateSize) ⌝ }
+    ensures { λ r. ⌜ (r ≡ cells (now (s .entry)) i o) × (r ≤ 65535) ⌝ }
+{
+    s[i * PART + o] as usize
+}
+
+pub fn put(s: &mut [u16], i: usize, o: usize, v: usize)
+    requires { ⌜ (i < 17) × (o < partSize) × (v ≤ 65535) × (length (now s) ≡ stateSize) ⌝ }
+    ensures { λ _. ⌜ Stored (cells (now (s .entry))) i (upd (cells (now (s .entry)) i) o v) (cells (now (s .exit))) ⌝ }
+{
+    s[i * PART + o] = v as u16;
+}
+
+// One more at a place.
+pub fn count(s: &mut [u16], i: usize, o: usize)
+    requires { ⌜ (i < 17) × (o < partSize) × (cells (now s) i o < 65535) × (length (now s) ≡ stateSize) ⌝ }
+    ensures { λ _. ⌜ Stored (cells (now (s .entry))) i (counted (cells (now (s .entry)) i) o) (cells (now (s .exit))) ⌝ }
+{
+    let k = get(&*s, i, o);
+    put(s, i, o, k + 1);
+}
+
+// Message w is sent.
+pub fn push(s: &mut [u16], i: usize, w: usize)
+    requires { ⌜ (i < 17) × (w ≤ 65535) × (cells (now s) i sentCount < 257) × (length (now s) ≡ stateSize) ⌝ }
+    ensures { λ _. ⌜ Stored (cells (now (s .entry))) i (pushed (cells (now (s .entry)) i) w) (cells (now (s .exit))) ⌝ }
+{
+    let k = get(&*s, i, SENT);
+    put(s, i, MESSAGES + k, w);
+    put(s, i, SENT, k + 1);
+}
+
+// Length x is sent, unless it was the last.
+pub fn send_length(s: &mut [u16], i: usize, x: usize)
+    requires { ⌜ (i < 17) × (x ≤ 255) × (cells (now s) i sentCount < 257) × (length (now s) ≡ stateSize) ⌝ }
+    ensures { λ _. ⌜ Stored (cells (now (s .entry))) i (lengthSent (cells (now (s .entry)) i) x) (cells (now (s .exit))) ⌝ }
+{
+    if get(&*s, i, LAST) != x {
+        push(s, i, 17 + x);
+        put(s, i, LAST, x);
+    }
+}
+
+// Rule 3: length x is sent, and the node waits for its arc to h.
+pub fn wait(s: &mut [u16], i: usize, x: usize, h: usize)
+    requires { ⌜ (i < 17) × (x ≤ 255) × (h < 17) × (cells (now s) i sentCount < 257) × (length (now s) ≡ stateSize) ⌝ }
+    ensures { λ _. ⌜ Stored (cells (now (s .entry))) i (waited (cells (now (s .entry)) i) x h) (cells (now (s .exit))) ⌝ }
+{
+    send_length(s, i, x);
+    put(s, i, WAITS, h);
+}
+
+// Entry y is filled with distance x and first hop h, and LP is x.
+pub fn note(s: &mut [u16], i: usize, y: usize, x: usize, h: usize)
+    requires { ⌜ (i < 17) × (y < 17) × (x ≤ 255) × (h < 17) × (cells (now s) i entryCount < 16) × (length (now s) ≡ stateSize) ⌝ }
+    ensures { λ _. ⌜ Stored (cells (now (s .entry))) i (noted (cells (now (s .entry)) i) y x h) (cells (now (s .exit))) ⌝ }
+{
+    let k = get(&*s, i, ENTRIES);
+    put(s, i, TARGETS + k, y);
+    put(s, i, DISTANCES + k, x);
+    put(s, i, HOPS + k, h);
+    put(s, i, MARKS + y, k + 1);
+    put(s, i, ENTRIES, k + 1);
+    put(s, i, LP, x);
+}
+
+// Rule 4, a label y with no entry yet.
+pub fn fill(s: &mut [u16], i: usize, h: usize, x: usize, y: usize)
+    requires { ⌜ (i < 17) × (h < 17) × (x ≤ 255) × (y < 17) × (cells (now s) i sentCount < 256) × (cells (now s) i entryCount < 16) × (length (now s) ≡ stateSize) ⌝ }
+    ensures { λ _. ⌜ Stored (cells (now (s .entry))) i (filled (cells (now (s .entry)) i) h x y) (cells (now (s .exit))) ⌝ }
+{
+    send_length(s, i, x);
+    push(s, i, y);
+    note(s, i, y, x, h);
+}
+
+// Rule 2: the end is sent, and the node stops.
+pub fn stop(s: &mut [u16], i: usize)
+    requires { ⌜ (i < 17) × (cells (now s) i sentCount < 257) × (length (now s) ≡ stateSize) ⌝ }
+    ensures { λ _. ⌜ Stored (cells (now (s .entry))) i (stopped (cells (now (s .entry)) i)) (cells (now (s .exit))) ⌝ }
+{
+    push(s, i, 0);
+    put(s, i, PHASE, 2);
+}
+
+// Node i's start, but for its work.
+pub fn begin(s: &mut [u16], i: usize)
+    requires { ⌜ (i < 17) × (cells (now s) i sentCount < 257) × (cells (now s) i entryCount < 16) × (length (now s) ≡ stateSize) ⌝ }
+    ensures { λ _. ⌜ Stored (cells (now (s .entry))) i (begun (cells (now (s .entry)) i) i) (cells (now (s .exit))) ⌝ }
+{
+    push(s, i, i);
+    note(s, i, i, 0, 0);
+    put(s, i, PHASE, 1);
+}
+
+// The arc's length, 255 where there is no arc.
+pub fn length_of(net: &[u8], i: usize, h: usize) -> usize
+    requires { ⌜ (i < 17) × (h < 17) × (length (now net) ≡ 772) ⌝ }
+    ensures { λ r. ⌜ (r ≡ lenAt (now (net .entry)) i h) × (r ≤ 255) ⌝ }
+{
+    net[LENGTHS + (i * 17 + h)] as usize
+}
+
+// The arc's sum before anything is taken.
+pub fn first_sum(net: &[u8], i: usize, h: usize) -> usize
+    requires { ⌜ (i < 17) × (h < 17) × (length (now net) ≡ 772) ⌝ }
+    ensures { λ r. ⌜ (r ≡ sumOf (lenAt (now (net .entry)) i h) (finite 0)) × (r ≤ 65535) ⌝ }
+{
+    let l = length_of(net, i, h);
+    if l == 255 {
+        return NO_SUM;
+    }
+    l
+}
+
+// No phase, no messages, no entries, nothing delivered or taken.
+pub fn zero(s: &mut [u16], i: usize)
+    requires { ⌜ (i < 17) × (length (now s) ≡ stateSize) ⌝ }
+    ensures { λ _. ⌜ Stored (cells (now (s .entry))) i (zeroed (cells (now (s .entry)) i) targetsAt) (cells (now (s .exit))) ⌝ }
+{
+    let mut k: usize = 0;
+    while k < TARGETS {
+        put(s, i, k, 0);
+        k += 1;
+    }
+}
+
+pub fn lay_sums(net: &[u8], s: &mut [u16], i: usize)
+    requires { ⌜ (i < 17) × (length (now net) ≡ 772) × (length (now s) ≡ stateSize) ⌝ }
+    ensures { λ _. ⌜ Stored (cells (now (s .entry))) i (laidOut (now (net .entry)) i (cells (now (s .entry)) i) 17) (cells (now (s .exit))) ⌝ }
+{
+    let mut h: usize = 0;
+    while h < 17 {
+        let x = first_sum(net, i, h);
+        put(s, i, SUMS + h, x);
+        h += 1;
+    }
+}
+
+// All parts as they are before the first step.
+pub fn clear(net: &[u8], s: &mut [u16])
+    requires { ⌜ (length (now net) ≡ 772) × (length (now s) ≡ stateSize) ⌝ }
+    ensures { λ _. ⌜ cells (now (s .exit)) ≡ cleared (now (net .entry)) (cells (now (s .entry))) 17 ⌝ }
+{
+    let mut i: usize = 0;
+    while i < 17 {
+        zero(s, i);
+        lay_sums(net, s, i);
+        i += 1;
+    }
+}

@@ -1,0 +1,143 @@
+-- Reading a part: the phase, an entry by its mark, and the entries in the order of filling.
+-- Assumes nothing.
+use mathlib.Core.Path.{_≡_, refl, sym, ap, subst, _∙_}
+use mathlib.Core.Logic.{_≢_}
+use mathlib.Core.Bool.{Bool, true, false, cond, not}
+use mathlib.Core.Option.{Option, none, some}
+use mathlib.Core.List.{List, [], _∷_}
+use Prim.Native.Nat.{ℕ, zero, suc, _+_, _-_, _≤_, _<_}
+use native.Mathlib.Omega.{arith}
+use native.Mathlib.Numerals.{add-one}
+use lib.Dec.{ltb, eqb}
+use lib.ListN.{length, drop}
+use lib.Seq.{drop-length}
+use borrow.Author.Tests.{lt-ltb, le-ltb, eqb-true, eqb-false}
+use Rattle.method.specs.Network.{IsNode, Accepted}
+use Rattle.method.specs.Marks.{unknownMark, unreachableMark, distanceOf, noHop, hopOf}
+use Rattle.method.specs.Rules.{Filled, Phase, unstarted, started, stopped}
+use Rattle.method.specs.Steps.{State, steps, Counts}
+use Rattle.method.specs.Entries.{known, find, said, others, entry, records}
+use Rattle.method.proofs.Bounded.{never-a-mark}
+use Rattle.network.specs.Layout.{netOf}
+use Rattle.cells.specs.Part.{Part, entryAt, tableFrom, phaseOf, nodeOf, siteOf, stateOf, marked}
+use Rattle.cells.specs.Caches.{Marks}
+use Rattle.cells.proofs.Lists.{table-length}
+use Rattle.run.specs.Ran.{Ran}
+use Rattle.entries.specs.Read.{atEnd, isStopped, stoppedTo, entryOf, filledFirst}
+
+-- the phase
+pub stopped-is : (p : ℕ) → ltb 1 p ≡ atEnd (phaseOf p)
+stopped-is p = go (eqb p 0) refl (eqb p 1) refl
+  where
+    go : (a : Bool) → eqb p 0 ≡ a → (b : Bool) → eqb p 1 ≡ b → ltb 1 p ≡ atEnd (cond a unstarted (cond b started stopped))
+    go true ea b eb = le-ltb 1 p (omega (arith, eqb-true p 0 ea))
+    go false ea true eb = le-ltb 1 p (omega (arith, eqb-true p 1 eb))
+    go false ea false eb =
+        let n0 = eqb-false p 0 ea in
+        let n1 = eqb-false p 1 eb in
+        lt-ltb 1 p (omega arith)
+
+-- one node more
+pub stopped-next : (st : State) (k c r : ℕ) (b : Bool) → b ≡ isStopped (st (k + 1)) → c ≡ stoppedTo st k → r ≡ cond b 1 0 + c → r ≡ stoppedTo st (k + 1)
+stopped-next st k c r b eb ec er =
+    subst (λ (n : ℕ). r ≡ stoppedTo st n) (sym (add-one k))
+    (er ∙ ap (λ (t : Bool). cond t 1 0 + c) (eb ∙ ap (λ (n : ℕ). isStopped (st n)) (add-one k)) ∙ ap (λ (x : ℕ). cond (isStopped (st (suc k))) 1 0 + x) ec)
+
+pub stopped-le : (st : State) (k : ℕ) → stoppedTo st k ≤ k
+stopped-le st zero = omega arith
+stopped-le st (suc k) = go (isStopped (st (suc k))) (stopped-le st k)
+  where
+    go : (b : Bool) → stoppedTo st k ≤ k → cond b 1 0 + stoppedTo st k ≤ suc k
+    go true ih = omega arith
+    go false ih = omega arith
+
+-- an entry by its mark
+module _ (f : Part) (y : ℕ) (lt : y < 17) (marks : Marks f) (k : ℕ) (is : k ≡ f (57 + y)) where
+  found : find y (nodeOf f .table) ≡ marked f k
+  found = marks y lt .1 ∙ ap (marked f) (sym is)
+
+  known-at : k ≢ 0 → find y (nodeOf f .table) ≡ some (entryAt f (k - 1))
+  known-at ne = found ∙ go k ne
+    where
+      go : (k : ℕ) → k ≢ 0 → marked f k ≡ some (entryAt f (k - 1))
+      go zero n = absurd (n refl)
+      go (suc k) n = let e : suc k - 1 ≡ k = omega arith in rw e
+
+  pub filled-distance : k ≢ 0 → (d : ℕ) → d ≡ f (90 + (k - 1)) → d ≡ distanceOf (entryOf (siteOf f) y)
+  filled-distance ne d e = e ∙ sym (ap (λ (o : Option Filled). distanceOf (said (nodeOf f .phase) o)) (known-at ne))
+
+  pub filled-hop : k ≢ 0 → (h : ℕ) → h ≡ f (106 + (k - 1)) → h ≡ hopOf (entryOf (siteOf f) y)
+  filled-hop ne h e = e ∙ sym (ap (λ (o : Option Filled). hopOf (said (nodeOf f .phase) o)) (known-at ne))
+
+  module _ (z : k ≡ 0) where
+    unfilled : entryOf (siteOf f) y ≡ said (nodeOf f .phase) none
+    unfilled = ap (said (nodeOf f .phase)) (found ∙ ap (marked f) z)
+
+    pub no-hop : noHop ≡ hopOf (entryOf (siteOf f) y)
+    no-hop = sym (ap hopOf unfilled ∙ go (nodeOf f .phase))
+      where
+        go : (ph : Phase) → hopOf (said ph none) ≡ noHop
+        go unstarted = refl
+        go started = refl
+        go stopped = refl
+
+    pub no-distance : (b : Bool) → b ≡ isStopped (siteOf f) → cond b unreachableMark unknownMark ≡ distanceOf (entryOf (siteOf f) y)
+    no-distance b e = ap (λ (t : Bool). cond t unreachableMark unknownMark) e ∙ sym (ap distanceOf unfilled ∙ go (nodeOf f .phase))
+      where
+        go : (ph : Phase) → distanceOf (said ph none) ≡ cond (atEnd ph) unreachableMark unknownMark
+        go unstarted = refl
+        go started = refl
+        go stopped = refl
+
+-- the entries that were filled first
+down : (f : Part) (d k t : ℕ) → k ≡ t + d → drop d (tableFrom f k) ≡ tableFrom f t
+down f zero k t e = let q : k ≡ t = omega arith in rw q
+down f (suc d) zero t e = absurd (omega arith)
+down f (suc d) (suc k) t e = down f d k t (omega arith)
+
+pub filled-first : (f : Part) (k : ℕ) → k ≤ f 2 → filledFirst k (nodeOf f .table) ≡ tableFrom f k
+unfolding filledFirst
+filled-first f k le = rw (table-length f (f 2)) (down f (f 2 - k) (f 2) k (omega arith))
+
+pub filled-next : (f : Part) (k : ℕ) → k < f 2 → filledFirst (suc k) (nodeOf f .table) ≡ entryAt f k ∷ filledFirst k (nodeOf f .table)
+filled-next f k lt = filled-first f (suc k) lt ∙ ap (λ (es : List Filled). entryAt f k ∷ es) (sym (filled-first f k (omega arith)))
+
+-- none, and all
+pub filled-none : (es : List Filled) → filledFirst 0 es ≡ []
+unfolding filledFirst
+filled-none es = let e : length es - 0 ≡ length es = omega arith in ap (λ (k : ℕ). drop k es) e ∙ drop-length es
+
+pub filled-all : (es : List Filled) → filledFirst (length es) es ≡ es
+unfolding filledFirst
+filled-all es = let e : length es - length es ≡ 0 = omega arith in ap (λ (k : ℕ). drop k es) e
+
+-- records, one entry more
+pub records-next : (f : Part) (i k c r x : ℕ) (b : Bool) → x ≡ f (74 + k) → b ≡ not (eqb x i) → c ≡ length (others i (tableFrom f k)) → r ≡ cond b 1 0 + c
+    → r ≡ length (others i (tableFrom f (k + 1)))
+records-next f i k c r x b ex eb ec er =
+    subst (λ (n : ℕ). r ≡ length (others i (tableFrom f n))) (sym (add-one k))
+    (er ∙ ap (λ (t : Bool). cond t 1 0 + c) (eb ∙ ap (λ (z : ℕ). not (eqb z i)) ex) ∙ go (eqb (f (74 + k)) i))
+  where
+    go : (t : Bool) → cond (not t) 1 0 + c ≡ length (cond t (others i (tableFrom f k)) (entryAt f k ∷ others i (tableFrom f k)))
+    go true = omega (arith, ec)
+    go false = omega (arith, ec)
+
+pub others-le : (f : Part) (i k : ℕ) → length (others i (tableFrom f k)) ≤ k
+others-le f i zero = omega arith
+others-le f i (suc k) = go (eqb (f (74 + k)) i) (others-le f i k)
+  where
+    go : (b : Bool) → length (others i (tableFrom f k)) ≤ k → length (cond b (others i (tableFrom f k)) (entryAt f k ∷ others i (tableFrom f k))) ≤ suc k
+    go true ih = omega arith
+    go false ih = omega arith
+
+-- after a run, this is what the method says
+module _ (g bs : List ℕ) (m : ℕ → Part) (c : Counts) (ran : Ran g bs m c) (i : ℕ) where
+  pub ran-entry : (y : ℕ) → entryOf (stateOf m i) y ≡ entry (netOf g) (steps bs) i y
+  ran-entry y = ap (λ (st : State). entryOf (st i) y) (ran .state)
+
+  -- a distance is no mark
+  pub no-mark : Accepted (netOf g) → IsNode (netOf g .n) i → (y d h : ℕ) → entryOf (stateOf m i) y ≡ known d h → d < unreachableMark
+  no-mark acc at y d h e = never-a-mark (netOf g) (acc .valid) (steps bs) (acc .sizes) i y d h at (sym (ran-entry y) ∙ e)
+
+  pub ran-records : others i (stateOf m i .node .table) ≡ records (netOf g) (steps bs) i
+  ran-records = ap (λ (st : State). others i (st i .node .table)) (ran .state)

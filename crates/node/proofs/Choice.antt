@@ -1,0 +1,127 @@
+-- The least of the sums is rule 1's choice, and rule 2's test is one comparison.
+-- Assumes nothing.
+use mathlib.Core.Path.{_≡_, refl, sym, ap, subst, _∙_}
+use mathlib.Core.Logic.{_⊎_, inl, inr, _≢_}
+use mathlib.Core.Bool.{Bool, true, false, cond}
+use mathlib.Core.Option.{Option, none, some}
+use mathlib.Core.List.{List}
+use Prim.Native.Nat.{ℕ, zero, suc, _+_, _≤_, _<_}
+use native.Mathlib.Omega.{arith}
+use lib.Dec.{eqb}
+use lib.ListN.{getD}
+use borrow.Author.Tests.{lt-ltb, eqb-false, ne-eqb}
+use Rattle.method.specs.Network.{IsNode, IsArc}
+use Rattle.method.specs.Message.{Msg, Item, finite, infinite, item}
+use Rattle.method.specs.Rules.{Choice, rule₁, stop, rests, rule₂, to₁, to₃}
+use Rattle.method.specs.Work.{heard, next, turnAt}
+use Rattle.method.proofs.Choosing.{Before, Chosen, rule₁-ok}
+use Rattle.method.proofs.Again.{Held}
+use Rattle.network.specs.Layout.{lenAt, arcsFrom, netOf, Laid}
+use Rattle.cells.specs.Part.{Part, noSum, itemSum, nodeOf, siteOf}
+use Rattle.node.specs.Rules.{least}
+use Rattle.node.specs.Working.{Ready}
+use Rattle.node.proofs.Least.{least-none, least-is}
+use Rattle.node.proofs.Limits.{i-low, lp-low, item-low}
+
+-- an arc's length is the table's
+arc-len : (g : List ℕ) (a k i j l : ℕ) → IsArc (arcsFrom g a k) i j l → l ≡ lenAt g i j
+arc-len g a zero i j l m = absurd m
+arc-len g a (suc k) i j l (inl q) = sym (q .2) ∙ ap (λ (x : ℕ). lenAt g x (getD g (532 + a) 0)) (q .0) ∙ ap (λ (x : ℕ). lenAt g i x) (q .1)
+arc-len g a (suc k) i j l (inr m) = arc-len g (suc a) k i j l m
+
+module _ (g : List ℕ) (la : Laid g) (ss : ℕ → List Msg) (m : ℕ → Part) (i : ℕ) (rd : Ready g ss m i) where
+  abbrev items : ℕ → Item
+  items h = item (heard ss (siteOf (m i)) h)
+
+  abbrev choice : Option Choice
+  choice = rule₁ (netOf g .rank) i items (netOf g .arcs)
+
+  pub arc-length : (j l : ℕ) → IsArc (netOf g .arcs) i j l → (l ≡ lenAt g i j) × (l ≤ 15)
+  arc-length j l a = (arc-len g 0 (getD g 2 0) i j l a, omega (arith, la .accepted .valid .short i j l a, la .accepted .sizes .lengths .1))
+
+  -- the sum in an arc's place
+  arc-sum : (j l v : ℕ) → IsArc (netOf g .arcs) i j l → items j ≡ finite v → (m i (40 + j) ≡ l + v) × (l + v < noSum)
+  arc-sum j l v a e =
+      let at = la .accepted .valid .heads i j l a in
+      let q = arc-length j l a in
+      let ne : lenAt g i j ≢ 255 = λ z. omega arith in
+      (rd .caches .sums j (omega (arith, at .1, la .accepted .sizes .nodes .1)) ∙ rw (ne-eqb (lenAt g i j) 255 ne, e, ← q .0), omega (arith, item-low g la ss m i rd j v at e))
+
+  -- no arc, or one whose item is infinite, has none
+  no-sum : (h : ℕ) → h < 17 → ((l : ℕ) → IsArc (netOf g .arcs) i h l → items h ≡ infinite) → m i (40 + h) ≡ noSum
+  no-sum h lt none-yet = rd .caches .sums h lt ∙ go (eqb (lenAt g i h) 255) refl
+    where
+      go : (b : Bool) → eqb (lenAt g i h) 255 ≡ b → cond b noSum (itemSum (lenAt g i h) (items h)) ≡ noSum
+      go true e = refl
+      go false e = ap (itemSum (lenAt g i h)) (none-yet (lenAt g i h) (la .listed i h (i-low g la ss m i rd) lt (eqb-false (lenAt g i h) 255 e)))
+
+  -- against what rule 1 gives
+  abbrev Agrees : Option Choice → Type 0
+  Agrees none = least (m i) (netOf g .n) .sum ≡ noSum
+  Agrees (some p) = least (m i) (netOf g .n) ≡ p
+
+  agrees : (o : Option Choice) → Chosen (netOf g .rank) items (λ j l. IsArc (netOf g .arcs) i j l) o → Agrees o
+  agrees none c = least-none (m i) (netOf g .n) (λ h pos le. no-sum h (omega (arith, la .accepted .sizes .nodes .1)) (λ l a. c h l a))
+  agrees (some p) c =
+      let at = la .accepted .valid .heads i (p .head) (c .0 .len) (c .0 .arc) in
+      let s = arc-sum (p .head) (c .0 .len) (c .0 .now) (c .0 .arc) (c .0 .itemIs) in
+      least-is (m i) p (at .0) (s .0 ∙ sym (c .0 .sumIs)) (omega (arith, s .1, c .0 .sumIs)) (netOf g .n) (at .1) first
+    where
+      first : (h : ℕ) → 1 ≤ h → h ≤ netOf g .n → (p .sum < m i (40 + h)) ⊎ ((p .sum ≡ m i (40 + h)) × (p .head ≤ h))
+      first h pos le = go (eqb (lenAt g i h) 255) refl (items h) refl
+        where
+          lt : h < 17
+          lt = omega (arith, la .accepted .sizes .nodes .1)
+
+          far : m i (40 + h) ≡ noSum → (p .sum < m i (40 + h)) ⊎ ((p .sum ≡ m i (40 + h)) × (p .head ≤ h))
+          far e = inl (omega (arith, c .0 .sumIs, arc-sum (p .head) (c .0 .len) (c .0 .now) (c .0 .arc) (c .0 .itemIs) .1))
+
+          by : (x : ℕ) → m i (40 + h) ≡ x → Before (netOf g .rank) (p .sum) (p .head) x h → (p .sum < m i (40 + h)) ⊎ ((p .sum ≡ m i (40 + h)) × (p .head ≤ h))
+          by x e (inl a) = inl (omega arith)
+          by x e (inr a) = inr (omega (arith, a .0), a .1)
+
+          go : (b : Bool) → eqb (lenAt g i h) 255 ≡ b → (t : Item) → items h ≡ t → (p .sum < m i (40 + h)) ⊎ ((p .sum ≡ m i (40 + h)) × (p .head ≤ h))
+          go true e t et = far (rd .caches .sums h lt ∙ ap (λ (b : Bool). cond b noSum (itemSum (lenAt g i h) (items h))) e)
+          go false e infinite et = far (no-sum h lt (λ l a. et))
+          go false e (finite v) et =
+              let a = la .listed i h (i-low g la ss m i rd) lt (eqb-false (lenAt g i h) 255 e) in
+              by (lenAt g i h + v) (arc-sum h (lenAt g i h) v a et .0) (c .1 h (lenAt g i h) v a et)
+
+  agreed : Agrees choice
+  agreed = agrees choice (rule₁-ok (netOf g .rank) items i (netOf g .arcs))
+
+  -- Rule 2: it stops
+  pub stops : m i 3 + netOf g .lmax < least (m i) (netOf g .n) .sum → turnAt (netOf g) i ss to₁ (siteOf (m i)) ≡ rests (stop (nodeOf (m i)))
+  unfolding turnAt
+  stops lt = go choice agreed
+    where
+      go : (o : Option Choice) → Agrees o → rule₂ (netOf g .lmax) (next ss (siteOf (m i))) (nodeOf (m i)) o ≡ rests (stop (nodeOf (m i)))
+      go none a = refl
+      go (some p) a = rw (lt-ltb (m i 3 + netOf g .lmax) (p .sum) (omega (arith, ap (λ (c : Choice). c .sum) a)))
+
+  -- or it goes on with that arc
+  pub holds : least (m i) (netOf g .n) .sum ≤ m i 3 + netOf g .lmax → Held (netOf g) i items (to₃ (least (m i) (netOf g .n))) (nodeOf (m i))
+  holds le = go choice refl agreed
+    where
+      go : (o : Option Choice) → choice ≡ o → Agrees o → Held (netOf g) i items (to₃ (least (m i) (netOf g .n))) (nodeOf (m i))
+      go none e a = absurd (omega (arith, a, lp-low g la ss m i rd))
+      go (some p) e a = (e ∙ ap some (sym a), le)
+
+  -- the chosen arc
+  pub record OnArc (p : Choice) : Type 0 where
+    pub node : IsNode (netOf g .n) (p .head)
+    pub other : p .head ≢ i
+    pub len : lenAt g i (p .head) ≤ 15
+    pub least-head : p .head ≡ least (m i) (netOf g .n) .head
+
+  pub on-arc : (p : Choice) → Held (netOf g) i items (to₃ p) (nodeOf (m i)) → OnArc p
+  on-arc p held =
+      let c : Chosen (netOf g .rank) items (λ j l. IsArc (netOf g .arcs) i j l) (some p) =
+      subst (λ (o : Option Choice). Chosen (netOf g .rank) items (λ j l. IsArc (netOf g .arcs) i j l) o) (held .0) (rule₁-ok (netOf g .rank) items i (netOf g .arcs)) in
+      let q = arc-length (p .head) (c .0 .len) (c .0 .arc) in
+      record {
+        node = la .accepted .valid .heads i (p .head) (c .0 .len) (c .0 .arc);
+        other = λ e. la .accepted .valid .apart i (p .head) (c .0 .len) (c .0 .arc) (sym e);
+        len = omega (arith, q);
+        least-head = sym (ap (λ (x : Choice). x .head) (agrees (some p) c));
+      }

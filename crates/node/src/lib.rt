@@ -1,0 +1,117 @@
+// A node's work over the state's array: rules 1 to 4, until it waits or stops.
+ghost use mathlib.Core.Path.{_≡_};
+ghost use Prim.Native.Nat.{ℕ, _+_, _-_, _≤_, _<_};
+ghost use lib.ListN.{length, getD};
+ghost use lib.Dec.{ltb};
+ghost use Rattle.method.specs.If.{if_then_else_};
+ghost use Rattle.network.specs.Layout.{lenAt, Laid};
+ghost use Rattle.cells.specs.Part.{cells, stateSize};
+ghost use Rattle.cells.specs.Stores.{Stored};
+ghost use Rattle.node.specs.Rules.{least, hears, takes, heardOf, tookOf, Able, Room};
+ghost use Rattle.node.specs.Working.{Working, Worked};
+use cells::*;
+
+// A chosen arc: its sum, and its head.
+pub struct Chosen {
+    pub sum: usize,
+    pub head: usize,
+}
+
+// The lesser sum of two, where h is the higher head.
+pub fn lesser(c: Chosen, x: usize, h: usize) -> Chosen
+    ensures { λ r. ⌜ (r .sum ≡ (if ltb x (c .sum) then x else c .sum)) × (r .head ≡ (if ltb x (c .sum) then h else c .head)) ⌝ }
+{
+    if x < c.sum {
+        return Chosen { sum: x, head: h };
+    }
+    c
+}
+
+// Rule 1: of i's arcs the one with the least sum; of equals, the lowest head.
+pub fn choose(s: &[u16], i: usize, n: usize) -> Chosen
+    requires { ⌜ (i < 17) × (n < 17) × (length (now s) ≡ stateSize) ⌝ }
+    ensures { λ r. ⌜ (r .sum ≡ least (cells (now (s .entry)) i) n .sum) × (r .head ≡ least (cells (now (s .entry)) i) n .head) ⌝ }
+{
+    let mut c = Chosen {
+        sum: NO_SUM,
+        head: 0,
+    };
+    let mut h: usize = 0;
+    while h < n {
+        h += 1;
+        let x = get(s, i, SUMS + h);
+        c = lesser(c, x, h);
+    }
+    c
+}
+
+// What came of the chosen arc: nothing further, a label, or a length or the end.
+pub enum Heard {
+    Nothing,
+    Label,
+    Length,
+}
+
+// Rule 4: message w of the arc to h, of sum x, is heard.
+pub fn hear(net: &[u8], s: &mut [u16], i: usize, h: usize, x: usize, w: usize) -> Heard
+    requires { ⌜ (i < 17) × (h < 17) × (x ≤ 255) × (lenAt (now net) i h + (w - 17) ≤ 65535) × Room (cells (now s) i) w × (length (now net) ≡ 772) × (length (now s) ≡ stateSize) ⌝ }
+    ensures { λ r. ⌜ Stored (cells (now (s .entry))) i (hears (now (net .entry)) i (cells (now (s .entry)) i) h x w) (cells (now (s .exit))) × (r ≡ heardOf w) ⌝ }
+{
+    match w {
+        0 => {
+            put(s, i, SUMS + h, NO_SUM);
+            Heard::Length
+        }
+        1..=16 => {
+            if get(&*s, i, MARKS + w) != 0 {
+                return Heard::Label;
+            }
+            fill(s, i, h, x, w);
+            Heard::Label
+        }
+        _ => {
+            let l = length_of(net, i, h);
+            put(s, i, SUMS + h, l + (w - 17));
+            Heard::Length
+        }
+    }
+}
+
+// Rules 3 and 4: the next message of the arc to h, of sum x, is taken; or there is none, and the node waits for it.
+pub fn take(net: &[u8], s: &mut [u16], i: usize, h: usize, x: usize) -> Heard
+    requires { ⌜ Able (now net) (cells (now s)) i h x × (length (now net) ≡ 772) × (length (now s) ≡ stateSize) ⌝ }
+    ensures { λ r. ⌜ Stored (cells (now (s .entry))) i (takes (now (net .entry)) (cells (now (s .entry))) i h x) (cells (now (s .exit))) × (r ≡ tookOf (cells (now (s .entry))) i h) ⌝ }
+{
+    let t = get(&*s, i, TAKEN + h);
+    if get(&*s, i, DELIVERED + h) <= t {
+        wait(s, i, x, h);
+        return Heard::Nothing;
+    }
+    let w = get(&*s, h, MESSAGES + t);
+    count(s, i, TAKEN + h);
+    hear(net, s, i, h, x, w)
+}
+
+// The work of node i: choosing and taking, until it must wait or has stopped.
+pub fn work(net: &[u8], s: &mut [u16], i: usize)
+    requires { ⌜ Laid (now net) × Working (now net) (cells (now s)) i × (length (now s) ≡ stateSize) ⌝ }
+    ensures { λ _. ⌜ Worked (now (net .entry)) (cells (now (s .entry))) i (cells (now (s .exit))) ⌝ }
+{
+    let n = net[NODES] as usize;
+    let lmax = net[LMAX] as usize;
+    'choose: loop {
+        let chosen = choose(&*s, i, n);
+        if get(&*s, i, LP) + lmax < chosen.sum {
+            stop(s, i);
+            break 'choose;
+        }
+        'take: loop {
+            let heard = take(net, s, i, chosen.head, chosen.sum);
+            match heard {
+                Heard::Nothing => break 'choose,
+                Heard::Label => {}
+                Heard::Length => break 'take,
+            }
+        }
+    }
+}

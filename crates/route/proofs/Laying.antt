@@ -1,0 +1,140 @@
+-- The way as the code writes it: hop by hop into the room.
+-- Assumes nothing.
+use mathlib.Core.Path.{_≡_, refl, sym, ap, ap₂, subst, _∙_}
+use mathlib.Core.Logic.{_≢_}
+use mathlib.Core.Bool.{true, false}
+use mathlib.Core.List.{List, [], _∷_, _++_, append-assoc, append-nil}
+use Prim.Native.Nat.{ℕ, suc, _+_, _≤_, _<_}
+use native.Mathlib.Omega.{arith}
+use native.Mathlib.Numerals.{add-one}
+use lib.Dec.{eqb}
+use lib.ListN.{length, set, length-set, take, drop, take-append-drop}
+use lib.Seq.{take-suc-set, drop-set-lt}
+use borrow.Author.Tests.{eqb-true, eqb-false}
+use Rattle.method.specs.Entries.{Entry, unknown, unreachable, known}
+use Rattle.method.specs.Marks.{unknownMark, unreachableMark, distanceOf}
+use Rattle.cells.specs.Part.{Part, stateOf}
+use Rattle.cells.specs.Caches.{Marks}
+use Rattle.entries.specs.Read.{entryOf}
+use Rattle.entries.proofs.Reading.{no-mark}
+use Rattle.route.specs.declared.Way.{Way}
+use Rattle.route.specs.declared.Way.the-variants.{Unknown, Unreachable, Nodes}
+use Rattle.route.specs.Route.{distanceTo, hopTo, route, laidIn, Asked, OnWay, answerOf, roomOf}
+use Rattle.route.proofs.Following.{On, nearer, route-here, route-next, route-few}
+
+laid-none : (room : List ℕ) (at : ℕ) → room ≡ laidIn room at []
+laid-none room at =
+    let e : at + 0 ≡ at = omega arith in
+    sym (ap₂ (λ (a b : List ℕ). a ++ b) (append-nil (take at room)) (ap (λ (k : ℕ). drop k room) e) ∙ take-append-drop at room)
+
+laid-next : (room : List ℕ) (at h : ℕ) (xs : List ℕ) → at < length room → laidIn (set room at h) (at + 1) xs ≡ laidIn room at (h ∷ xs)
+laid-next room at h xs lt =
+    let n : at + 1 + length xs ≡ at + suc (length xs) = omega arith in
+    ap₂ (λ (a b : List ℕ). a ++ xs ++ b)
+    (ap (λ (k : ℕ). take k (set room at h)) (add-one at) ∙ take-suc-set room at h lt)
+    (drop-set-lt (at + 1 + length xs) room at h (omega arith) ∙ ap (λ (k : ℕ). drop k room) n)
+    ∙ ap (λ (a : List ℕ). a ++ drop (at + suc (length xs)) room) (append-assoc (take at room) (h ∷ []) xs)
+
+-- what reading asks for
+module _ (m : ℕ → Part) (i y : ℕ) (q : Asked m i y) where
+  pub i-low : (i < 17) × (y < 17)
+  i-low = omega (arith, q .node, q .target, q .accepted .sizes .nodes .1)
+
+  pub readable : Marks (m i) × (m i 2 ≤ 16)
+  readable = (q .ran .marks i (q .node), q .ran .few i (q .node))
+
+  -- the marks tell what kind of entry it is
+  abbrev e : Entry
+  e = entryOf (stateOf m i) y
+
+  low : (d h : ℕ) → e ≡ known d h → d < unreachableMark
+  low d h is = no-mark (q .net) (q .bytes) m (q .counts) (q .ran) i (q .accepted) (q .node) y d h is
+
+  module _ (d : ℕ) (is : d ≡ distanceOf e) (xs room : List ℕ) where
+    abbrev Answers : Way → Type 0
+    Answers r = (r ≡ answerOf e xs) × (room ≡ roomOf e xs room)
+
+    pub says-unknown : eqb d unknownMark ≡ true → Answers Unknown
+    says-unknown t = go e refl (sym is ∙ eqb-true d unknownMark t)
+      where
+        go : (x : Entry) → e ≡ x → distanceOf x ≡ unknownMark → (Unknown ≡ answerOf x xs) × (room ≡ roomOf x xs room)
+        go unknown w z = (refl, refl)
+        go unreachable w z = absurd (omega arith)
+        go (known k h) w z = absurd (omega (arith, low k h w))
+
+    pub says-unreachable : eqb d unreachableMark ≡ true → Answers Unreachable
+    says-unreachable t = go e refl (sym is ∙ eqb-true d unreachableMark t)
+      where
+        go : (x : Entry) → e ≡ x → distanceOf x ≡ unreachableMark → (Unreachable ≡ answerOf x xs) × (room ≡ roomOf x xs room)
+        go unknown w z = absurd (omega arith)
+        go unreachable w z = (refl, refl)
+        go (known k h) w z = absurd (omega (arith, low k h w))
+
+    pub says-filled : eqb d unknownMark ≡ false → eqb d unreachableMark ≡ false → OnWay m i y
+    says-filled a b = go e refl
+      where
+        go : (x : Entry) → e ≡ x → OnWay m i y
+        go unknown w = absurd (eqb-false d unknownMark a (is ∙ ap distanceOf w))
+        go unreachable w = absurd (eqb-false d unreachableMark b (is ∙ ap distanceOf w))
+        go (known k h) w = record { asked = q; distance = k; hop = h; filled = w }
+
+module _ (m : ℕ → Part) (i y : ℕ) (w : OnWay m i y) where
+  on : On (w .asked .net) (w .asked .bytes) m (w .asked .counts) (w .asked .accepted) (w .asked .ran) y i
+  on = record { node = w .asked .node; distance = w .distance; hop = w .hop; filled = w .filled }
+
+  pub fits : length (route (stateOf m) y i) ≤ 16
+  fits =
+      omega (arith, route-few (w .asked .net) (w .asked .bytes) m (w .asked .counts) (w .asked .accepted) (w .asked .ran) y i on, w .asked .accepted .sizes .nodes .1)
+
+  pub filled-answers : (room room′ : List ℕ) (r : ℕ) → r ≡ 0 + length (route (stateOf m) y i) → room′ ≡ laidIn room 0 (route (stateOf m) y i)
+      → (Nodes r ≡ answerOf (entryOf (stateOf m i) y) (route (stateOf m) y i)) × (room′ ≡ roomOf (entryOf (stateOf m i) y) (route (stateOf m) y i) room)
+  filled-answers room room′ r er e = (
+    ap Nodes (er ∙ omega arith) ∙ sym (ap (λ (x : Entry). answerOf x (route (stateOf m) y i)) (w .filled)),
+    e ∙ sym (ap (λ (x : Entry). roomOf x (route (stateOf m) y i) room) (w .filled)),
+  )
+
+  -- at the target
+  pub arrives : i ≡ y → (at : ℕ) (room : List ℕ) → (at ≡ at + length (route (stateOf m) y i)) × (room ≡ laidIn room at (route (stateOf m) y i))
+  arrives z at room =
+      let n = route-here (w .asked .net) (w .asked .bytes) m (w .asked .counts) (w .asked .accepted) (w .asked .ran) y i z in
+      (omega (arith, ap length n), laid-none room at ∙ ap (laidIn room at) (sym n))
+
+  -- one hop, to h
+  module _ (ne : i ≢ y) (h : ℕ) (eh : h ≡ hopTo (stateOf m) y i) where
+    step : (v : On (w .asked .net) (w .asked .bytes) m (w .asked .counts) (w .asked .accepted) (w .asked .ran) y h) × (v .distance < w .distance)
+    unfolding on
+    step =
+        subst (λ (k : ℕ). (v : On (w .asked .net) (w .asked .bytes) m (w .asked .counts) (w .asked .accepted) (w .asked .ran) y k) × (v .distance < w .distance)) (sym eh)
+        (nearer (w .asked .net) (w .asked .bytes) m (w .asked .counts) (w .asked .accepted) (w .asked .ran) y i on ne)
+
+    pub onward : OnWay m h y
+    onward =
+        record {
+          asked = record { net = w .asked .net; bytes = w .asked .bytes; counts = w .asked .counts; accepted = w .asked .accepted; ran = w .asked .ran; node = step .0 .node; target = w .asked .target };
+          distance = step .0 .distance;
+          hop = step .0 .hop;
+          filled = step .0 .filled;
+        }
+
+    pub nears : distanceTo (stateOf m) y h < distanceTo (stateOf m) y i
+    nears = omega (arith, step .1, ap distanceOf (step .0 .filled), ap distanceOf (w .filled))
+
+    pub h-low : h ≤ 16
+    h-low = omega (arith, step .0 .node, w .asked .accepted .sizes .nodes .1)
+
+    route-is : route (stateOf m) y i ≡ h ∷ route (stateOf m) y h
+    route-is =
+        route-next (w .asked .net) (w .asked .bytes) m (w .asked .counts) (w .asked .accepted) (w .asked .ran) y i on ne
+        ∙ ap (λ (k : ℕ). k ∷ route (stateOf m) y k) (sym eh)
+
+    module _ (at : ℕ) (room : List ℕ) (le : at + length (route (stateOf m) y i) ≤ length room) where
+      pub inside : at < length room
+      inside = omega (arith, ap length route-is)
+
+      pub room-left : at + 1 + length (route (stateOf m) y h) ≤ length (set room at h)
+      room-left = omega (arith, ap length route-is, length-set room at h)
+
+      pub written : (r : ℕ) (room′ : List ℕ) → r ≡ at + 1 + length (route (stateOf m) y h) → room′ ≡ laidIn (set room at h) (at + 1) (route (stateOf m) y h)
+          → (r ≡ at + length (route (stateOf m) y i)) × (room′ ≡ laidIn room at (route (stateOf m) y i))
+      written r room′ er e =
+          (omega (arith, ap length route-is), e ∙ laid-next room at h (route (stateOf m) y h) inside ∙ ap (laidIn room at) (sym route-is))

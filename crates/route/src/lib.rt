@@ -1,0 +1,45 @@
+// The way from a node to a target along first hops, over the array that a run has left.
+ghost use mathlib.Core.Path.{_≡_};
+ghost use Prim.Native.Nat.{_+_, _≤_};
+ghost use lib.ListN.{length};
+ghost use Rattle.cells.specs.Part.{cells, stateSize, stateOf};
+ghost use Rattle.entries.specs.Read.{entryOf};
+ghost use Rattle.route.specs.Route.{route, laidIn, Asked, OnWay, answerOf, roomOf};
+use entries::*;
+
+// From node i on, the nodes on the way to y are written from place `at` on; the next free place. The distance falls at each call.
+pub fn follow(s: &[u16], room: &mut [u8], at: usize, i: usize, y: usize) -> usize
+    requires { ⌜ OnWay (cells (now s)) i y × (at + length (route (stateOf (cells (now s))) y i) ≤ length (now room)) × (length (now s) ≡ stateSize) ⌝ }
+    ensures { λ r. ⌜ (r ≡ at + length (route (stateOf (cells (now (s .entry)))) y i))
+        × (now (room .exit) ≡ laidIn (now (room .entry)) at (route (stateOf (cells (now (s .entry)))) y i)) ⌝ }
+{
+    if i == y {
+        return at;
+    }
+    let h = first_hop(s, i, y);
+    room[at] = h as u8;
+    follow(s, room, at + 1, h, y)
+}
+
+// No entry yet, no chain, or how many nodes are on the way.
+pub enum Way {
+    Unknown,
+    Unreachable,
+    Nodes(usize),
+}
+
+// The nodes that first hops pass from node i to y, y last, into the room's first places.
+pub fn find_way(s: &[u16], room: &mut [u8], i: usize, y: usize) -> Way
+    requires { ⌜ Asked (cells (now s)) i y × (16 ≤ length (now room)) × (length (now s) ≡ stateSize) ⌝ }
+    ensures { λ r. ⌜ (r ≡ answerOf (entryOf (stateOf (cells (now (s .entry))) i) y) (route (stateOf (cells (now (s .entry)))) y i))
+        × (now (room .exit) ≡ roomOf (entryOf (stateOf (cells (now (s .entry))) i) y) (route (stateOf (cells (now (s .entry)))) y i) (now (room .entry))) ⌝ }
+{
+    let d = distance(s, i, y);
+    if d.is_unknown() {
+        return Way::Unknown;
+    }
+    if d.is_unreachable() {
+        return Way::Unreachable;
+    }
+    Way::Nodes(follow(s, room, 0, i, y))
+}

@@ -1,0 +1,123 @@
+-- What is known of a node between two steps: its numbers are in range, and it may be put to work.
+-- Assumes nothing.
+use mathlib.Core.Path.{_≡_, refl, sym, ap, subst, _∙_, fun-ext}
+use mathlib.Core.Logic.{_≢_}
+use mathlib.Core.Bool.{Bool, true, false, cond}
+use mathlib.Core.Option.{none, some}
+use mathlib.Core.List.{List, _∷_}
+use Prim.Native.Nat.{ℕ, suc, _≤_, _<_}
+use native.Mathlib.Omega.{arith}
+use lib.Dec.{ltb, eqb}
+use lib.ListN.{length, getD}
+use borrow.Author.Tests.{eqb-true, eqb-false, eq-eqb, ne-eqb}
+use Rattle.method.specs.Network.{Net, IsNode}
+use Rattle.method.specs.Message.{Msg, len, lastLen, item, sentAfter}
+use Rattle.method.specs.Rules.{Filled, unstarted, started, to₁, to₃, rests, rule₃, turn}
+use Rattle.method.specs.Work.{Site, heard, next, turnAt, became, work, begun}
+use Rattle.method.specs.Steps.{State, sents, put, handed}
+use Rattle.method.proofs.Table.{Has}
+use Rattle.method.proofs.View.{begun-ok}
+use Rattle.method.proofs.Again.{turn-held}
+use Rattle.method.proofs.Turns.{Waiting}
+use Rattle.method.proofs.Working.{SiteOk}
+use Rattle.method.proofs.Runs.{Inv}
+use Rattle.method.proofs.Enough.{work-rests}
+use Rattle.network.specs.Layout.{netOf, Laid}
+use Rattle.cells.specs.Part.{Part, siteOf, stateOf}
+use Rattle.cells.specs.Stores.{Stored}
+use Rattle.cells.specs.Caches.{Caches}
+use Rattle.cells.proofs.Stored.{kept}
+use Rattle.cells.proofs.Lists.{sent-length, table-length}
+use Rattle.node.specs.Rules.{least}
+use Rattle.node.specs.Working.{Ready}
+use Rattle.node.proofs.Limits.{few-entries, sent-fits, last-short}
+use Rattle.node.proofs.Choice.{on-arc}
+use Rattle.run.specs.Resting.{Resting}
+
+-- one part has changed
+pub put-state : (m n : ℕ → Part) (i : ℕ) → ((j : ℕ) → j ≢ i → n j ≡ m j) → (s : Site) → siteOf (n i) ≡ s → stateOf n ≡ put (stateOf m) i s
+put-state m n i there s e = fun-ext (λ j. go j (eqb j i) refl)
+  where
+    go : (j : ℕ) (b : Bool) → eqb j i ≡ b → siteOf (n j) ≡ cond b s (siteOf (m j))
+    go j true q = ap (λ (k : ℕ). siteOf (n k)) (eqb-true j i q) ∙ e
+    go j false q = ap siteOf (there j (eqb-false j i q))
+
+-- a node begins, its arcs as they are
+module _ (net : Net) (st : State) (inv : Inv net st) (i : ℕ) where
+  pub begun-site : st i .node .phase ≡ unstarted → SiteOk net i (sents st) (became (st i) (begun i))
+  begun-site e =
+      let sk = inv i .site in
+      record {
+        ok = begun-ok net i (heard (sents st) (st i)) (λ j y h. subst (λ (r : List Filled). Has y r) (sk .ok .blank e .1) (sk .ok .heard j y h));
+        taken-le = sk .taken-le;
+        delivered-le = sk .delivered-le;
+      }
+
+  -- its arc to h hands over a message
+  pub handed-site : (h : ℕ) → st i .delivered h < length (sents st h) → SiteOk net i (sents st) (handed (st i) h)
+  handed-site h lt = record { ok = inv i .site .ok; taken-le = λ k. more k (eqb k h); delivered-le = λ k. fits k (eqb k h) refl }
+    where
+      more : (k : ℕ) (b : Bool) → st i .taken k ≤ cond b (suc (st i .delivered k)) (st i .delivered k)
+      more k true = omega (arith, inv i .site .taken-le k)
+      more k false = inv i .site .taken-le k
+
+      fits : (k : ℕ) (b : Bool) → eqb k h ≡ b → cond b (suc (st i .delivered k)) (st i .delivered k) ≤ length (sents st k)
+      fits k true e = subst (λ (j : ℕ). st i .delivered j < length (sents st j)) (sym (eqb-true k h e)) lt
+      fits k false e = inv i .site .delivered-le k
+
+module _ (g : List ℕ) (la : Laid g) (m : ℕ → Part) (re : Resting g m) where
+  pub sent-low : (j : ℕ) → IsNode (getD g 0 0) j → m j 1 ≤ 257
+  sent-low j at =
+      omega (arith, sent-fits (netOf g) (la .accepted .sizes) (la .accepted .valid) j at _ (stateOf m j .node) (re .inv j .site .ok), sent-length (m j) (m j 1))
+
+  pub table-low : (j : ℕ) → IsNode (getD g 0 0) j → m j 2 ≤ 16
+  table-low j at =
+      omega (arith, few-entries (netOf g) (la .accepted .sizes) (la .accepted .valid) j at _ (stateOf m j .node) (re .inv j .site .ok), table-length (m j) (m j 2))
+
+  module _ (i : ℕ) (at : IsNode (getD g 0 0) i) where
+    pub i-low : i < 17
+    i-low = omega (arith, la .accepted .sizes .nodes .1)
+
+    -- node i's part has become f, that of a site that works
+    pub ready : (n : ℕ → Part) (f : Part) → Stored m i f n → (s : Site) → siteOf f ≡ s → SiteOk (netOf g) i (sents (stateOf m)) s → s .node .phase ≡ started
+        → Caches g i (sents (stateOf m)) f → Ready g (sents (stateOf m)) n i
+    ready n f st s is ok up caches =
+        let e : siteOf (n i) ≡ s = ap siteOf (st .here) ∙ is in
+        record {
+          node = at;
+          same = λ j ne. ap (λ (p : Part). siteOf p .node .sent) (st .there j ne);
+          lists = λ j. re .inv j .site .ok .good;
+          fits =
+              λ j aj. (
+                sent-fits (netOf g) (la .accepted .sizes) (la .accepted .valid) j aj _ (stateOf m j .node) (re .inv j .site .ok),
+                last-short (netOf g) (la .accepted .sizes) (la .accepted .valid) j aj _ (stateOf m j .node) (re .inv j .site .ok),
+              );
+          site = subst (λ (x : Site). SiteOk (netOf g) i (sents (stateOf m)) x) (sym e) ok;
+          up = ap (λ (x : Site). x .node .phase) e ∙ up;
+          caches = subst (λ (p : Part). Caches g i (sents (stateOf m)) p) (sym (st .here)) caches;
+        }
+
+    -- a message on an arc that node i does not wait for changes nothing else
+    pub still : siteOf (m i) .node .phase ≡ started → (h : ℕ) → least (m i) (getD g 0 0) .head ≢ h
+        → work (netOf g) i (sents (stateOf m)) (handed (siteOf (m i)) h) ≡ handed (siteOf (m i)) h
+    unfolding turnAt turn
+    still up h other = work-rests (netOf g) i ss (handed s h) (s .node) (rested (re .inv i .waits up))
+      where
+        ss : ℕ → List Msg
+        ss = sents (stateOf m)
+
+        s : Site
+        s = siteOf (m i)
+
+        rested : Waiting (netOf g) i (heard ss s) (next ss s) (s .node) → turnAt (netOf g) i ss to₁ (handed s h) ≡ rests (s .node)
+        rested w =
+            let rd : Ready g ss m i = ready m (m i) (kept m i) s refl (re .inv i .site) up (re .caches i i-low) in
+            let p = w .choice in
+            let head = on-arc g la ss m i rd p (w .chosen, w .near) .least-head in
+            let ne : p .head ≢ h = λ q. other (sym head ∙ q) in
+            turn-held (netOf g) i (λ k. item (heard ss s k)) (next ss (handed s h)) (to₃ p) (s .node) (w .chosen, w .near)
+            ∙ ap (rule₃ (s .node) p)
+            (ap (λ (b : Bool). cond (ltb (s .taken (p .head)) (cond b (suc (s .delivered (p .head))) (s .delivered (p .head)))) (some (sentAfter (s .taken (p .head)) (ss (p .head)))) none) (ne-eqb (p .head) h ne)
+            ∙ w .dry)
+            ∙ ap (λ (b : Bool). rests (record { phase = s .node .phase; sent = cond b (s .node .sent) (len (p .sum) ∷ s .node .sent); table = s .node .table; lp = s .node .lp }))
+            (eq-eqb (lastLen (s .node .sent)) (p .sum) (w .sent))

@@ -1,0 +1,161 @@
+-- `deliver`: idle, kept, or worked on.
+use Rattle.run.proofs.Rested.{i-low, sent-low}
+use Rattle.run.proofs.Acting.{nothing-there, same-place, no-work, waits-elsewhere, delivery-working, works-on}
+use Rattle.cells.specs.Part.{cells}
+use mathlib.Core.Path.{_≡_}
+use Prim.Native.Nat.{_+_, _<_}
+use native.Mathlib.Omega.{arith}
+use borrow.Author.Needs.{needs}
+use Rattle.run.proofs.deliver.Statement.{statement}
+use Rattle.run.proofs.deliver.Tie as tie
+
+get-requires : tie.Need-get-requires
+get-requires c κs =
+    let a = c .before .before .before .args in
+    let p = c .before .before .before .pre in
+    (i-low (a .net .now) (p .0) (cells (a .s .now)) (p .1) (a .h) (p .3), omega arith, p .4)
+
+add-get : tie.Need-add-get
+add-get c = search needs
+
+get-requires-2 : tie.Need-get-requires-2
+get-requires-2 c κs =
+    let a = c .before .before .before .before .before .args in
+    let p = c .before .before .before .before .before .pre in
+    let l = i-low (a .net .now) (p .0) (cells (a .s .now)) (p .1) (a .h) (p .3) in
+    (i-low (a .net .now) (p .0) (cells (a .s .now)) (p .1) (a .i) (p .2), omega arith, p .4)
+
+same-length : tie.Need-same-length
+same-length c = search needs
+
+returns : tie.Need-returns
+returns c =
+    let a = c .before .before .before .before .before .before .before .args in
+    let p = c .before .before .before .before .before .before .before .pre in
+    let get = c .before .before .before .get in
+    nothing-there (a .net .now) (p .0) (cells (a .s .now)) (p .1) (a .i) (p .2) (a .h) (p .3) (omega (
+      arith,
+      get .ensures .0,
+      (c .before .get2) .ensures .0,
+    ))
+
+add-count : tie.Need-add-count
+add-count c = search needs
+
+count-requires : tie.Need-count-requires
+count-requires c κs =
+    let a = c .before .before .before .before .before .before .before .before .args in
+    let p = c .before .before .before .before .before .before .before .before .pre in
+    let get = c .before .before .before .before .get in
+    let get2 = c .before .before .get2 in
+    let l = i-low (a .net .now) (p .0) (cells (a .s .now)) (p .1) (a .h) (p .3) in (
+      i-low (a .net .now) (p .0) (cells (a .s .now)) (p .1) (a .i) (p .2),
+      omega arith,
+      omega (arith, get .ensures .0, get2 .ensures .0, sent-low (a .net .now) (p .0) (cells (a .s .now)) (p .1) (a .h) (p .3)),
+      p .4,
+    )
+
+get-requires-3 : tie.Need-get-requires-3
+get-requires-3 c κs =
+    let a = c .before .before .before .before .before .before .before .before .before .before .before .before .args in
+    let p = c .before .before .before .before .before .before .before .before .before .before .before .before .pre in
+    (i-low (a .net .now) (p .0) (cells (a .s .now)) (p .1) (a .i) (p .2), omega arith, search needs)
+
+same-length-2 : tie.Need-same-length-2
+same-length-2 c = search needs
+
+returns-2 : tie.Need-returns-2
+returns-2 c =
+    let a = c .before .before .before .before .before .before .before .before .before .before .before .before .before .before .args in
+    let p = c .before .before .before .before .before .before .before .before .before .before .before .before .before .before .pre in
+    let get = c .before .before .before .before .before .before .before .before .before .before .get in
+    let get2 = c .before .before .before .before .before .before .before .before .get2 in
+    let count = c .before .before .before .before .before .count in
+    let m = cells (a .s .now) in
+    let n = cells (count .last .0) in
+    let lt : m (a .i) (6 + a .h) < m (a .h) 1 = omega (arith, get .ensures .0, get2 .ensures .0) in
+    no-work (a .net .now) (p .0) m (p .1) (a .i) (p .2) (a .h) (p .3) lt n (count .ensures)
+    (omega (arith, c .before .get3 .ensures .0, same-place (a .net .now) (p .0) m (p .1) (a .i) (p .2) (a .h) (p .3) lt n (count .ensures) 0 (omega arith)))
+
+get-requires-4 : tie.Need-get-requires-4
+get-requires-4 c κs =
+    let a = c .before .before .before .before .before .before .before .before .before .before .before .before .before .before .before .args in
+    let p = c .before .before .before .before .before .before .before .before .before .before .before .before .before .before .before .pre in
+    (i-low (a .net .now) (p .0) (cells (a .s .now)) (p .1) (a .i) (p .2), omega arith, search needs)
+
+same-length-3 : tie.Need-same-length-3
+same-length-3 c = search needs
+
+returns-3 : tie.Need-returns-3
+returns-3 c =
+    let a = c .before .before .before .before .before .before .before .before .before .before .before .before .before .before .before .before .before .args in
+    let p = c .before .before .before .before .before .before .before .before .before .before .before .before .before .before .before .before .before .pre in
+    let get = c .before .before .before .before .before .before .before .before .before .before .before .before .before .get in
+    let get2 = c .before .before .before .before .before .before .before .before .before .before .before .get2 in
+    let count = c .before .before .before .before .before .before .before .before .count in
+    let get3 = c .before .before .before .before .get3 in
+    let if2 = c .before .before .before .if2 in
+    let m = cells (a .s .now) in
+    let n = cells (count .last .0) in
+    let lt : m (a .i) (6 + a .h) < m (a .h) 1 = omega (arith, get .ensures .0, get2 .ensures .0) in
+    let up : m (a .i) 0 ≡ 1 =
+    omega (arith, get3 .ensures .0, if2 .left, same-place (a .net .now) (p .0) m (p .1) (a .i) (p .2) (a .h) (p .3) lt n (count .ensures) 0 (omega arith)) in
+    waits-elsewhere (a .net .now) (p .0) m (p .1) (a .i) (p .2) (a .h) (p .3) lt n (count .ensures) up
+    (omega (arith, c .before .get4 .ensures .0, same-place (a .net .now) (p .0) m (p .1) (a .i) (p .2) (a .h) (p .3) lt n (count .ensures) 5 (omega arith)))
+
+work-requires : tie.Need-work-requires
+work-requires c κs =
+    let a = c .before .before .before .before .before .before .before .before .before .before .before .before .before .before .before .before .before .before .args in
+    let p = c .before .before .before .before .before .before .before .before .before .before .before .before .before .before .before .before .before .before .pre in
+    let get = c .before .before .before .before .before .before .before .before .before .before .before .before .before .before .get in
+    let get2 = c .before .before .before .before .before .before .before .before .before .before .before .before .get2 in
+    let count = c .before .before .before .before .before .before .before .before .before .count in
+    let get3 = c .before .before .before .before .before .get3 in
+    let if2 = c .before .before .before .before .if2 in
+    let m = cells (a .s .now) in
+    let n = cells (count .last .0) in
+    let lt : m (a .i) (6 + a .h) < m (a .h) 1 = omega (arith, get .ensures .0, get2 .ensures .0) in
+    let up : m (a .i) 0 ≡ 1 =
+    omega (arith, get3 .ensures .0, if2 .left, same-place (a .net .now) (p .0) m (p .1) (a .i) (p .2) (a .h) (p .3) lt n (count .ensures) 0 (omega arith)) in
+    (p .0, delivery-working (a .net .now) (p .0) m (p .1) (a .i) (p .2) (a .h) (p .3) lt n (count .ensures) up, search needs)
+
+same-length-4 : tie.Need-same-length-4
+same-length-4 c = search needs
+
+returns-4 : tie.Need-returns-4
+returns-4 c =
+    let a = c .before .before .before .before .before .before .before .before .before .before .before .before .before .before .before .before .before .before .before .before .before .args in
+    let p = c .before .before .before .before .before .before .before .before .before .before .before .before .before .before .before .before .before .before .before .before .before .pre in
+    let get = c .before .before .before .before .before .before .before .before .before .before .before .before .before .before .before .before .before .get in
+    let get2 = c .before .before .before .before .before .before .before .before .before .before .before .before .before .before .before .get2 in
+    let count = c .before .before .before .before .before .before .before .before .before .before .before .before .count in
+    let get3 = c .before .before .before .before .before .before .before .before .get3 in
+    let if2 = c .before .before .before .before .before .before .before .if2 in
+    let work = c .before .before .work in
+    let m = cells (a .s .now) in
+    let n = cells (count .last .0) in
+    let lt : m (a .i) (6 + a .h) < m (a .h) 1 = omega (arith, get .ensures .0, get2 .ensures .0) in
+    let up : m (a .i) 0 ≡ 1 =
+    omega (arith, get3 .ensures .0, if2 .left, same-place (a .net .now) (p .0) m (p .1) (a .i) (p .2) (a .h) (p .3) lt n (count .ensures) 0 (omega arith)) in
+    works-on (a .net .now) (p .0) m (p .1) (a .i) (p .2) (a .h) (p .3) lt n (count .ensures) up (cells (work .last .1 .0)) (work .ensures)
+
+pub deliver-spec : {M : Type 1} → statement M
+deliver-spec =
+    tie.close
+    (tie.spec
+    get-requires
+    add-get
+    get-requires-2
+    same-length
+    returns
+    add-count
+    count-requires
+    get-requires-3
+    same-length-2
+    returns-2
+    get-requires-4
+    same-length-3
+    returns-3
+    work-requires
+    same-length-4
+    returns-4)
