@@ -1,0 +1,111 @@
+-- The records that pass refusal 17, one behind the other: the method's sound records whose first difference is not 0.
+-- Assumes nothing.
+use mathlib.Core.Path.{_≡_, refl, ap}
+use mathlib.Core.Logic.{inl, inr, _≢_}
+use mathlib.Core.List.{List, [], _∷_, _++_}
+use mathlib.Core.Bool.{Bool, true, false, _&&_, _||_, true≢false}
+use Prim.Native.Nat.{ℕ, suc, _-_, _≤_, _<_}
+use native.Mathlib.Omega.{arith}
+use lib.Dec.{eqb}
+use lib.ListN.{length}
+use borrow.Author.Tests.{le-ltb, ltb-false, eq-eqb, ne-eqb, eqb-false}
+use Rattle.method.specs.Network.{IsNode}
+use Rattle.method.specs.Rules.{Filled}
+use Rattle.method.specs.Entries.{lastDistance, Sound, AllSound}
+use Rattle.method.proofs.Numbers.{Among, few}
+use Rattle.method.proofs.Table.{Has, Once, targets, targets-length, has-false}
+use Rattle.table.specs.File.{Head}
+use Rattle.table.specs.Reader.{wrong, wrongFields}
+
+-- a record behind those seen
+pub record Next (h : Head) (seen : List Filled) (e : Filled) : Type 0 where
+  pub sound : Sound (h .n) (h .lmax) (h .own) seen e
+  pub first : length seen ≡ 0 → 1 ≤ e .distance
+
+abbrev pub Passed : Head → List Filled → Type 0
+Passed h [] = Unit {0}
+Passed h (e ∷ es) = Next h es e × Passed h es
+
+-- the method's records pass
+pub all-passed : (h : Head) (es : List Filled) → AllSound (h .n) (h .lmax) (h .own) es
+    → ((g : List Filled) (e : Filled) → es ≡ g ++ (e ∷ []) → 1 ≤ e .distance) → Passed h es
+all-passed h [] s first = tt
+all-passed h (e ∷ es) s first =
+    (record { sound = s .0; first = λ z. first [] e (ap (λ (r : List Filled). e ∷ r) (none es z)) }, all-passed h es (s .1) (λ g x q. first (e ∷ g) x (ap (λ (r : List Filled). e ∷ r) q)))
+  where
+    none : (r : List Filled) → length r ≡ 0 → r ≡ []
+    none [] z = refl
+    none (x ∷ r) z = absurd (omega arith)
+
+-- neither of two tests says yes
+pub neither : (t u : Bool) → t || u ≡ false → (t ≡ false) × (u ≡ false)
+neither true u e = absurd (true≢false e)
+neither false u e = (refl, e)
+
+-- refusal 17's test says no exactly of a record that goes on
+
+pub not-wrong : (h : Head) (seen : List Filled) (e : Filled) → Next h seen e → wrong h seen e ≡ false
+unfolding wrong wrongFields
+not-wrong h seen e x =
+    let s = x .sound in
+    rw (
+      le-ltb (h .n) (e .target) (s .target .1),
+      ne-eqb (e .target) (h .own) (s .other),
+      s .new,
+      le-ltb (h .n) (e .hop) (s .hop .1),
+      ne-eqb (e .hop) (h .own) (s .hopOther),
+      le-ltb (h .lmax) (e .distance - lastDistance seen) (omega (arith, s .slowly)),
+    )
+    (rises seen (x .first))
+  where
+    rises : (es : List Filled) → (length es ≡ 0 → 1 ≤ e .distance) → eqb (length es) 0 && eqb (e .distance - lastDistance es) 0 ≡ false
+    rises [] g = ne-eqb (e .distance - 0) 0 (omega (arith, g refl))
+    rises (x ∷ es) g = rw (ne-eqb (suc (length es)) 0 (omega arith))
+
+pub goes-on : (h : Head) (seen : List Filled) (e : Filled) → 1 ≤ e .target → 1 ≤ e .hop → lastDistance seen ≤ e .distance → wrong h seen e ≡ false → Next h seen e
+unfolding wrong wrongFields
+goes-on h seen e a b c w =
+    let w6 = neither _ _ w in
+    let w5 = neither _ _ (w6 .0) in
+    let w4 = neither _ _ (w5 .0) in
+    let w3 = neither _ _ (w4 .0) in
+    let w2 = neither _ _ (w3 .0) in
+    let w1 = neither _ _ (w2 .0) in
+    let slow = ltb-false (h .lmax) (e .distance - lastDistance seen) (w5 .1) in
+    record {
+      sound =
+          record {
+            target = (a, ltb-false (h .n) (e .target) (w1 .0));
+            other = eqb-false (e .target) (h .own) (w1 .1);
+            new = w2 .1;
+            hop = (b, ltb-false (h .n) (e .hop) (w3 .1));
+            hopOther = eqb-false (e .hop) (h .own) (w4 .1);
+            rises = c;
+            slowly = omega arith;
+          };
+      first = λ z. rises z (w6 .1);
+    }
+  where
+    rises : length seen ≡ 0 → eqb (length seen) 0 && eqb (e .distance - lastDistance seen) 0 ≡ false → 1 ≤ e .distance
+    rises z t =
+        let q : eqb (e .distance - lastDistance seen) 0 ≡ false = rw (eq-eqb (length seen) 0 z) at t in
+        let n : e .distance - lastDistance seen ≡ 0 → ⊥ = eqb-false (e .distance - lastDistance seen) 0 q in
+        omega arith
+
+-- no target twice, none is the node itself: fewer records than nodes
+
+pub passed-once : (h : Head) (es : List Filled) → Passed h es → Once es
+passed-once h [] p = tt
+passed-once h (e ∷ es) p = (has-false (e .target) es (p .0 .sound .new), passed-once h es (p .1))
+
+pub passed-nodes : (h : Head) (es : List Filled) → Passed h es → (y : ℕ) → Has y es → IsNode (h .n) y × (y ≢ h .own)
+passed-nodes h (e ∷ es) p y (inl q) = rw q (p .0 .sound .target, p .0 .sound .other)
+passed-nodes h (e ∷ es) p y (inr m) = passed-nodes h es (p .1) y m
+
+pub few-records : (h : Head) → IsNode (h .n) (h .own) → (es : List Filled) → Passed h es → length es < h .n
+few-records h own es p =
+    omega (arith, targets-length es, few (h .n) (h .own ∷ targets es) (λ m. passed-nodes h es p (h .own) m .1 refl, passed-once h es p) node)
+  where
+    node : (y : ℕ) → Among y (h .own ∷ targets es) → IsNode (h .n) y
+    node y (inl q) = rw q own
+    node y (inr m) = passed-nodes h es p y m .0

@@ -1,0 +1,290 @@
+// Reading a table file: any bytes are refused with a number, or are entries.
+use super::Answer;
+use super::Ending;
+use super::NO_HOP;
+use super::Outcome;
+use super::Walked;
+use super::power;
+use method::Distance;
+ghost use mathlib.Core.Path.{_≡_};
+ghost use Prim.Native.Nat.{_+_, _-_, _*_, _/_, _%_, _^_, _≤_, _<_};
+ghost use lib.ListN.{length};
+ghost use lib.Dec.{eqb};
+ghost use Rattle.bits.specs.Bits.{bitsOf};
+ghost use Rattle.method.specs.If.{if_then_else_};
+ghost use Rattle.table.specs.File.{one, head};
+ghost use Rattle.table.specs.Reader.{headAt, headFault, wrongFields, taken, reading, entryRead};
+ghost use Rattle.table.specs.Calls.{answer, entriesOutcome, entriesRoom};
+ghost use Rattle.table.specs.Code.{standing, endingAt, firstRecords, endedWith, walked, looked, answeredBy};
+ghost use Rattle.table.specs.Listing.{withEntry, withAbsent, withRecords, Within, allOutcome, allRoom};
+
+// Target t has the bit of weight 2 ^ (t - 1).
+fn weight(t: u32) -> u16
+    requires { ⌜ (1 ≤ t) × (t ≤ 16) ⌝ }
+    ensures { λ r. ⌜ r ≡ 2 ^ (t - 1) ⌝ }
+{
+    power(t as usize - 1) as u16
+}
+
+// Whether target t has its mark.
+fn is_marked(marks: u16, t: u32) -> bool
+    requires { ⌜ (1 ≤ t) × (t ≤ 16) ⌝ }
+    ensures { λ r. ⌜ r ≡ eqb (marks / 2 ^ (t - 1) % 2) 1 ⌝ }
+{
+    (marks >> (t - 1)) % 2 == 1
+}
+
+// Refusal 17 of a record's fields.
+fn is_wrong(
+    own: u32,
+    n: u32,
+    lmax: u32,
+    repeated: bool,
+    first: bool,
+    target: u32,
+    hop: u32,
+    difference: u32,
+) -> bool
+    ensures { λ r. ⌜ r ≡ wrongFields (head own n lmax) repeated first target hop difference ⌝ }
+{
+    if n < target {
+        return true;
+    }
+    if target == own {
+        return true;
+    }
+    if repeated {
+        return true;
+    }
+    if n < hop {
+        return true;
+    }
+    if hop == own {
+        return true;
+    }
+    if lmax < difference {
+        return true;
+    }
+    if first {
+        return difference == 0;
+    }
+    false
+}
+
+// The 13 bits from bit p on, or 0 where fewer stand: below 4096 is no record.
+fn record_at(file: &[u8], p: usize) -> u32
+    requires { ⌜ p ≤ 1024 ⌝ }
+    ensures { λ r. ⌜ (r ≡ standing (bitsOf (now (file .entry))) p) × (r < 8192) ⌝ }
+{
+    if file.len() < (p + 20) / 8 {
+        return 0;
+    }
+    bits::read(file, p, 13)
+}
+
+// How the records end where none stands from bit p on.
+fn ending_at(file: &[u8], p: usize) -> Ending
+    requires { ⌜ p ≤ 1024 ⌝ }
+    ensures { λ r. ⌜ r ≡ endingAt (bitsOf (now (file .entry))) p ⌝ }
+{
+    if file.len() <= p / 8 {
+        return Ending::Unfinished;
+    }
+    if bits::read(file, p, 1) != 0 {
+        return Ending::Unfinished;
+    }
+    if bits::read(file, p + 1, 7 - p % 8) != 0 {
+        return Ending::Faulty(18);
+    }
+    if p / 8 + 1 < file.len() {
+        return Ending::Faulty(18);
+    }
+    Ending::Marked
+}
+
+// a for the target that is asked for, else b.
+fn chosen(t: u32, target: u32, a: u16, b: u16) -> u16
+    ensures { λ r. ⌜ r ≡ (if eqb t target then a else b) ⌝ }
+{
+    if t == target {
+        return a;
+    }
+    b
+}
+
+// What a file tells whose records end so.
+fn ended(own: u32, n: u32, ending: Ending, count: usize, distance: u16, hop: u16) -> Walked
+    ensures { λ r. ⌜ r ≡ endedWith own n ending count distance hop ⌝ }
+{
+    Walked {
+        own,
+        n,
+        ending,
+        count,
+        distance,
+        hop,
+    }
+}
+
+// Takes the records of a file whose header is sound, and looks for target t in them.
+fn scan(file: &[u8], own: u32, n: u32, lmax: u32, t: u32) -> Walked
+    requires { ⌜ (1 ≤ own) × (own ≤ n) × (n ≤ 16) × (lmax < 16) ⌝ }
+    ensures { λ r. ⌜ r ≡ walked t (head own n lmax) (taken one (head own n lmax) (bitsOf (now (file .entry)))) ⌝ }
+{
+    let mut k: usize = 0;
+    let mut marks: u16 = 0;
+    let mut before: u32 = 0;
+    let mut distance: u16 = 0;
+    let mut hop: u16 = 0;
+    loop {
+        let p = 16 + 13 * k;
+        let x = record_at(file, p);
+        if x < 4096 {
+            let ending = ending_at(file, p);
+            return ended(own, n, ending, k, distance, hop);
+        }
+        let target = x / 256 % 16 + 1;
+        let via = x / 16 % 16 + 1;
+        let by = x % 16;
+        let repeated = is_marked(marks, target);
+        if is_wrong(own, n, lmax, repeated, k == 0, target, via, by) {
+            return ended(own, n, Ending::Faulty(17), k, distance, hop);
+        }
+        marks = marks + weight(target);
+        before = before + by;
+        distance = chosen(t, target, before as u16, distance);
+        hop = chosen(t, target, via as u16, hop);
+        k += 1;
+    }
+}
+
+// Refusals 14 to 16, 0 for none.
+fn head_fault(file: &[u8]) -> u32
+    ensures { λ r. ⌜ r ≡ headFault one (headAt one (bitsOf (now (file .entry)))) (now (file .entry)) ⌝ }
+{
+    if file.len() < 2 {
+        return 14;
+    }
+    if bits::nibble(file, 0) != 1 {
+        return 15;
+    }
+    if bits::nibble(file, 2) < bits::nibble(file, 1) {
+        return 16;
+    }
+    if bits::nibble(file, 3) == 0 {
+        return 16;
+    }
+    0
+}
+
+// The answer for target t, where absent is what a missing record says; first hop 0 is no record.
+fn entry_by(own: u32, n: u32, t: u32, absent: Distance, distance: u16, hop: u16) -> Answer
+    ensures { λ r. ⌜ r ≡ answeredBy own n t (absent .0) distance hop ⌝ }
+{
+    if t == 0 {
+        return Answer::Refused(11);
+    }
+    if n < t {
+        return Answer::Refused(11);
+    }
+    if t == own {
+        return Answer::Entry(Distance(0), 0);
+    }
+    if hop == 0 {
+        return Answer::Entry(absent, NO_HOP);
+    }
+    Answer::Entry(Distance(distance), hop)
+}
+
+// What a file tells, with target t looked for in its records; refusals 14 to 16 come first.
+fn look(file: &[u8], t: u32) -> Walked
+    ensures { λ r. ⌜ r ≡ looked t (now (file .entry)) ⌝ }
+{
+    let fault = head_fault(file);
+    if fault != 0 {
+        return ended(0, 0, Ending::Faulty(fault), 0, 0, 0);
+    }
+    let own = bits::nibble(file, 1) + 1;
+    let n = bits::nibble(file, 2) + 1;
+    let lmax = bits::nibble(file, 3);
+    scan(file, own, n, lmax, t)
+}
+
+// The entry for a target in a table file. Refusals 14 to 18, then 11.
+pub fn read_entry(file: &[u8], target: u32) -> Answer
+    ensures { λ r. ⌜ r ≡ answer (entryRead one (now (file .entry)) target) ⌝ }
+{
+    let w = look(file, target);
+    let ending = w.ending;
+    match ending {
+        Ending::Unfinished => entry_by(w.own, w.n, target, Distance::UNKNOWN, w.distance, w.hop),
+        Ending::Marked => entry_by(w.own, w.n, target, Distance::UNREACHABLE, w.distance, w.hop),
+        Ending::Faulty(r) => Answer::Refused(r),
+    }
+}
+
+// Stores the entry for y: its distance, or its mark, as number 2 * (y - 1), and its first hop behind it.
+fn put_entry(room: &mut [u16], y: u32, distance: u16, hop: u16)
+    requires { ⌜ (1 ≤ y) × (2 * y ≤ length (now room)) ⌝ }
+    ensures { λ _. ⌜ now (room .exit) ≡ withEntry (now (room .entry)) y distance hop ⌝ }
+{
+    let k = 2 * (y as usize - 1);
+    room[k] = distance;
+    room[k + 1] = hop;
+}
+
+// Stores the mark of a missing record for 1 to n.
+fn put_absent(room: &mut [u16], n: u32, mark: u16)
+    requires { ⌜ 2 * n ≤ length (now room) ⌝ }
+    ensures { λ _. ⌜ now (room .exit) ≡ withAbsent mark n (now (room .entry)) ⌝ }
+{
+    let mut y: u32 = 0;
+    while y < n {
+        put_entry(room, y + 1, mark, NO_HOP);
+        y += 1;
+    }
+}
+
+// Stores the first count records of a file.
+fn put_known(room: &mut [u16], file: &[u8], count: usize)
+    requires { ⌜ (count ≤ 16) × (16 + 13 * count ≤ 8 * length (now file)) × Within (length (now room)) (firstRecords (bitsOf (now file)) count) ⌝ }
+    ensures { λ _. ⌜ now (room .exit) ≡ withRecords (firstRecords (bitsOf (now (file .entry))) count) (now (room .entry)) ⌝ }
+{
+    let mut k: usize = 0;
+    let mut before: u16 = 0;
+    while k < count {
+        let x = bits::read(file, 16 + 13 * k, 13);
+        before = before + (x % 16) as u16;
+        put_entry(room, x / 256 % 16 + 1, before, (x / 16 % 16 + 1) as u16);
+        k += 1;
+    }
+}
+
+// Stores all entries of a file whose records passed, where mark is what a missing record says. Refusal 13.
+fn put_all(file: &[u8], own: u32, n: u32, count: usize, mark: u16, room: &mut [u16]) -> Outcome
+    requires { ⌜ (1 ≤ own) × (own ≤ n) × (n ≤ 16) × (count ≤ 16) × (16 + 13 * count ≤ 8 * length (now file)) × Within (2 * n) (firstRecords (bitsOf (now file)) count) ⌝ }
+    ensures { λ r. ⌜ (r ≡ allOutcome n (now (room .entry))) × (now (room .exit) ≡ allRoom own n mark (firstRecords (bitsOf (now (file .entry))) count) (now (room .entry))) ⌝ }
+{
+    let size = 2 * n as usize;
+    if room.len() < size {
+        return Outcome::Refused(13);
+    }
+    put_absent(room, n, mark);
+    put_known(room, file, count);
+    put_entry(room, own, 0, 0);
+    Outcome::Written(size)
+}
+
+// All entries of a table file of n nodes, as 2 * n numbers from the room's start on: for each target from 1 to n its distance, or its
+// mark, and its first hop. The rest of the room stays. Refusals 14 to 18, then 13.
+pub fn read_entries(file: &[u8], room: &mut [u16]) -> Outcome
+    ensures { λ r. ⌜ (r ≡ entriesOutcome (reading one (now (file .entry))) (now (room .entry))) × (now (room .exit) ≡ entriesRoom (reading one (now (file .entry))) (now (room .entry))) ⌝ }
+{
+    let w = look(file, 0);
+    let ending = w.ending;
+    match ending {
+        Ending::Unfinished => put_all(file, w.own, w.n, w.count, Distance::UNKNOWN.0, room),
+        Ending::Marked => put_all(file, w.own, w.n, w.count, Distance::UNREACHABLE.0, room),
+        Ending::Faulty(r) => Outcome::Refused(r),
+    }
+}
