@@ -1,0 +1,76 @@
+/* An independent reading of document 01, written from the document alone. Plain and slow on purpose: it shares no idea with the
+ * library. Nodes are numbered from 1, arcs from 0. */
+#ifndef REFERENCE_H
+#define REFERENCE_H
+#include <stddef.h>
+#include <stdint.h>
+
+enum { MOST_NODES = 16, MOST_ARCS = 240, MOST_SENT = 257 };
+enum { UNKNOWN = -1, UNREACHABLE = -2 };
+
+struct ref_arc {
+    unsigned tail, head, len;
+};
+
+struct ref_net {
+    unsigned n, lmax, arcs;
+    struct ref_arc arc[MOST_ARCS];
+};
+
+/* The refusal's number, 0 if none; then *net is the network. */
+unsigned ref_read_network(const uint8_t *bytes, size_t len, struct ref_net *net);
+unsigned ref_read_arc_list(unsigned n, unsigned lmax, const struct ref_arc *arcs, size_t count, struct ref_net *net);
+/* The network's bytes; returns how many. */
+size_t ref_network_bytes(const struct ref_net *net, uint8_t *bytes);
+
+/* A message: its kind, and the label or the length. */
+struct ref_msg {
+    enum { LABEL, LENGTH, END } kind;
+    unsigned value;
+};
+
+struct ref_entry {
+    int distance; /* or UNKNOWN, UNREACHABLE */
+    unsigned hop;
+};
+
+struct ref_record {
+    unsigned target, distance, hop;
+};
+
+struct ref_node {
+    int started, stopped, waits_for; /* the arc it waits for */
+    unsigned wait_sum, lp, last_sent, sent_count, filled_count;
+    struct ref_msg sent[MOST_SENT + 1];
+    struct ref_record filled[MOST_NODES]; /* in the order of filling, its own first */
+};
+
+struct ref_arc_state {
+    unsigned delivered, taken;
+    int item; /* the current length, or -1 for infinite */
+};
+
+struct ref_run {
+    const struct ref_net *net;
+    struct ref_node node[MOST_NODES + 1];
+    struct ref_arc_state arc[MOST_ARCS];
+    size_t taken, idle, unknown;
+    int refused; /* 10 once a 258th message was to be sent */
+};
+
+void ref_start(struct ref_run *run, const struct ref_net *net);
+void ref_step(struct ref_run *run, uint8_t step);
+struct ref_entry ref_entry_of(const struct ref_run *run, unsigned node, unsigned target);
+unsigned ref_stopped(const struct ref_run *run);
+
+/* By definition over all chains: distance[i][k] is the least sum or UNREACHABLE, hop[i][k] the lowest first hop (0 for i itself). */
+struct ref_truth {
+    int distance[MOST_NODES + 1][MOST_NODES + 1];
+    unsigned hop[MOST_NODES + 1][MOST_NODES + 1];
+};
+void ref_shortest(const struct ref_net *net, struct ref_truth *truth);
+
+/* A table file: written from a run, and read back. */
+size_t ref_write_file(const struct ref_run *run, unsigned node, uint8_t *bytes);
+unsigned ref_read_file(const uint8_t *bytes, size_t len, unsigned target, struct ref_entry *entry);
+#endif

@@ -1,0 +1,14 @@
+#!/usr/bin/env bash
+# The README's C program compiles without a warning against the header and the static library, and says what it should.
+. "$(dirname "$0")/verdict.sh"
+
+mkdir -p target/readme
+rm -f target/readme/program
+sed -n '/^```c$/,/^```$/p' README.md | sed '/^```/d' > target/readme/program.c
+verdict 'it has a C program' test -s target/readme/program.c
+verdict 'the static library is built' rt staticlib zaqfinell > /dev/null
+verdict 'its program compiles' \
+    "${CC:-cc}" -std=c99 -Wall -Wextra -Werror -Iinclude target/readme/program.c target/staticlib/libzaqfinell.a -o target/readme/program
+verdict 'its program says that the house is accepted' test "$(target/readme/program)" = accepted
+
+closing_line

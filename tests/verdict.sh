@@ -1,0 +1,21 @@
+# Sourced by the tests that are scripts: goes to the repository's root and counts.
+set -u
+cd "$(dirname "${BASH_SOURCE[0]}")/.." || exit 1
+passed=0
+failed=0
+
+verdict() { # verdict TEXT TEST..: one check, told where it fails
+    local text=$1
+    shift
+    if "$@"; then
+        passed=$((passed + 1))
+    else
+        failed=$((failed + 1))
+        echo "$0: $text"
+    fi
+}
+
+closing_line() {
+    echo "$passed passed, $failed failed"
+    [ "$failed" -eq 0 ] && [ "$passed" -gt 0 ]
+}
