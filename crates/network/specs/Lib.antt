@@ -1,4 +1,5 @@
 pub mod Refusal
+pub mod Room
 pub mod Bytes
 pub mod ArcList
 pub mod Layout

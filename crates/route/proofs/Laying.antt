@@ -19,7 +19,8 @@ use Rattle.entries.specs.Read.{entryOf}
 use Rattle.entries.proofs.Reading.{no-mark}
 use Rattle.route.specs.declared.Way.{Way}
 use Rattle.route.specs.declared.Way.the-variants.{Unknown, Unreachable, Nodes}
-use Rattle.route.specs.Route.{distanceTo, hopTo, route, laidIn, Asked, OnWay, answerOf, roomOf}
+use Rattle.route.specs.Route.{distanceTo, hopTo, route}
+use Rattle.route.specs.Asked.{laidIn, Asked, OnWay, answerOf, roomOf}
 use Rattle.route.proofs.Following.{On, nearer, route-here, route-next, route-few}
 
 laid-none : (room : List ℕ) (at : ℕ) → room ≡ laidIn room at []

@@ -4,7 +4,8 @@ ghost use Prim.Native.Nat.{_+_, _≤_};
 ghost use lib.ListN.{length};
 ghost use Rattle.cells.specs.Part.{cells, stateSize, stateOf};
 ghost use Rattle.entries.specs.Read.{entryOf};
-ghost use Rattle.route.specs.Route.{route, laidIn, Asked, OnWay, answerOf, roomOf};
+ghost use Rattle.route.specs.Route.{route};
+ghost use Rattle.route.specs.Asked.{laidIn, Asked, OnWay, answerOf, roomOf};
 use entries::*;
 
 // From node i on, the nodes on the way to y are written from place `at` on; the next free place. The distance falls at each call.
