@@ -6,7 +6,6 @@ use mathlib.Core.Bool.{Bool, true, false}
 use mathlib.Core.List.{List, [], _∷_}
 use lib.ListN.{length}
 use lib.Dec.{ltb}
-use Rattle.method.specs.Network.{Net}
 use Rattle.method.specs.Rules.{Phase, unstarted, started, stopped}
 use Rattle.method.specs.Steps.{State, Counts, steps, run, counts, refused10}
 use Rattle.method.specs.Entries.{Entry, unknown, unreachable, known, phase, entry}

@@ -21,7 +21,7 @@ use Rattle.method.proofs.Table.{In, Has, has-entry, targets, targets-le
 use Rattle.method.proofs.View.{Ok, endsSent}
 use Rattle.method.proofs.Said.{ok-of, known-filled}
 
-ends-le : (ph : Phase) → endsSent ph ≤ 1
+pub ends-le : (ph : Phase) → endsSent ph ≤ 1
 ends-le unstarted = omega arith
 ends-le started = omega arith
 ends-le stopped = omega arith

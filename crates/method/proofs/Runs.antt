@@ -89,6 +89,29 @@ put-ok net st i s inv r la k = moved (put st i s k) (go (eqb k i) refl)
     go true e = subst (λ (j : ℕ). AtRest net j (sents st) s) (sym (eqb-true k i e)) r
     go false e = inv k
 
+-- a node begins, or its arc to j hands over a message: its arcs are as they should be
+module _ (net : Net) (st : State) (inv : Inv net st) where
+  pub begun-site : (i : ℕ) → st i .node .phase ≡ unstarted → SiteOk net i (sents st) (became (st i) (begun i))
+  begun-site i e =
+      let sk = inv i .site in
+      record {
+        ok = begun-ok net i (heard (sents st) (st i)) (λ j y h. subst (λ (r : List Filled). Has y r) (sk .ok .blank e .1) (sk .ok .heard j y h));
+        taken-le = sk .taken-le;
+        delivered-le = sk .delivered-le;
+      }
+
+  pub handed-site : (i j : ℕ) → st i .delivered j < length (sents st j) → SiteOk net i (sents st) (handed (st i) j)
+  handed-site i j lt =
+      record { ok = inv i .site .ok; taken-le = λ h. more h (eqb h j); delivered-le = λ h. fits h (eqb h j) refl }
+    where
+      more : (h : ℕ) (b : Bool) → st i .taken h ≤ cond b (suc (st i .delivered h)) (st i .delivered h)
+      more h true = omega (arith, inv i .site .taken-le h)
+      more h false = inv i .site .taken-le h
+
+      fits : (h : ℕ) (b : Bool) → eqb h j ≡ b → cond b (suc (st i .delivered h)) (st i .delivered h) ≤ length (sents st h)
+      fits h true e = subst (λ (k : ℕ). st i .delivered k < length (sents st k)) (sym (eqb-true h j e)) lt
+      fits h false e = inv i .site .delivered-le h
+
 module _ (net : Net) (va : Valid net) where
   abbrev pub Kept : State → Stepped → Type 0
   Kept st r = Inv net (r .state) × Onward st (r .state)
@@ -104,15 +127,6 @@ module _ (net : Net) (va : Valid net) where
   module _ (st : State) (inv : Inv net st) where
     pub true-lists : (j : ℕ) → Good (net .arcs) j (sents st j)
     true-lists j = inv j .site .ok .good
-
-    begun-site : (i : ℕ) → st i .node .phase ≡ unstarted → SiteOk net i (sents st) (became (st i) (begun i))
-    begun-site i e =
-        let sk = inv i .site in
-        record {
-          ok = begun-ok net i (heard (sents st) (st i)) (λ j y h. subst (λ (r : List Filled). Has y r) (sk .ok .blank e .1) (sk .ok .heard j y h));
-          taken-le = sk .taken-le;
-          delivered-le = sk .delivered-le;
-        }
 
     begun-grown : (i : ℕ) → st i .node .phase ≡ unstarted → Grown (st i) (became (st i) (begun i))
     begun-grown i e =
@@ -137,21 +151,9 @@ module _ (net : Net) (va : Valid net) where
     starting-ok : (i : ℕ) (ph : Phase) → st i .node .phase ≡ ph → Kept st (starting ph net st i)
     starting-ok i unstarted e =
         worked-ok i (became (st i) (begun i)) (work net i (sents st) (became (st i) (begun i))) (begun-grown i e)
-        (work-ok net va i (sents st) true-lists (became (st i) (begun i)) (begun-site i e) refl)
+        (work-ok net va i (sents st) true-lists (became (st i) (begun i)) (begun-site net st inv i e) refl)
     starting-ok i started e = (inv, λ j. grown-refl (st j))
     starting-ok i stopped e = (inv, λ j. grown-refl (st j))
-
-    handed-site : (i j : ℕ) → st i .delivered j < length (sents st j) → SiteOk net i (sents st) (handed (st i) j)
-    handed-site i j lt =
-        record { ok = inv i .site .ok; taken-le = λ h. more h (eqb h j); delivered-le = λ h. fits h (eqb h j) refl }
-      where
-        more : (h : ℕ) (b : Bool) → st i .taken h ≤ cond b (suc (st i .delivered h)) (st i .delivered h)
-        more h true = omega (arith, inv i .site .taken-le h)
-        more h false = inv i .site .taken-le h
-
-        fits : (h : ℕ) (b : Bool) → eqb h j ≡ b → cond b (suc (st i .delivered h)) (st i .delivered h) ≤ length (sents st h)
-        fits h true e = subst (λ (k : ℕ). st i .delivered k < length (sents st k)) (sym (eqb-true h j e)) lt
-        fits h false e = inv i .site .delivered-le h
 
     handed-grown : (i j : ℕ) → Grown (st i) (handed (st i) j)
     handed-grown i j = record { node = later-refl (st i .node); delivered-le = λ h. go h (eqb h j) }
@@ -171,7 +173,7 @@ module _ (net : Net) (va : Valid net) where
         go true e =
             worked-ok i (handed (st i) j) s (handed-grown i j)
             (worksOn-ok net va i (sents st) true-lists (st i .node .phase) (handed (st i) j) refl
-            (handed-site i j (ltb-true (st i .delivered j) (length (sents st j)) e)))
+            (handed-site net st inv i j (ltb-true (st i .delivered j) (length (sents st j)) e)))
         go false e = (inv, λ k. grown-refl (st k))
 
     carriedOut-ok : (o : Named) → Kept st (carriedOut net st o)

@@ -8,11 +8,11 @@ use native.Mathlib.Omega.{arith}
 use lib.ListN.{length, drop, take-append-drop}
 use Rattle.method.specs.Network.{Arc, Net, IsNode, Valid, Sizes}
 use Rattle.method.specs.Message.{Msg, label, len, end, finite, lastLen, item, oldest}
-use Rattle.method.specs.Rules.{Phase, unstarted, started, stopped, Node}
+use Rattle.method.specs.Rules.{unstarted, started, Node}
 use Rattle.method.specs.Work.{heard}
 use Rattle.method.proofs.Sent.{Good, item-lastLen}
 use Rattle.method.proofs.View.{endsSent, Ok, started-unstarted}
-use Rattle.method.proofs.Bounded.{table-few, sent-few}
+use Rattle.method.proofs.Bounded.{ends-le, table-few, sent-few}
 use Rattle.network.specs.Layout.{netOf, Laid}
 use Rattle.cells.specs.Part.{Part, nodeOf, siteOf}
 use Rattle.cells.proofs.Lists.{sent-length, table-length}
@@ -31,11 +31,6 @@ last-oldest ar j t s g =
     let e = take-append-drop (length s - t) s in
     subst (λ (r : List Msg). lastLen (drop (length s - t) s) ≤ lastLen r) e
     (last-more ar j (lib.ListN.take (length s - t) s) (drop (length s - t) s) (subst (λ (r : List Msg). Good ar j r) (sym e) g))
-
-ends-le : (ph : Phase) → endsSent ph ≤ 1
-ends-le unstarted = omega arith
-ends-le started = omega arith
-ends-le stopped = omega arith
 
 -- a node of a house of 16 and LMAX 15
 module _ (net : Net) (small : Sizes net) (va : Valid net) (i : ℕ) (at : IsNode (net .n) i) (T : ℕ → List Msg) (nd : Node) (ok : Ok net i T nd) where

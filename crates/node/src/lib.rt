@@ -1,7 +1,7 @@
 // A node's work over the state's array: rules 1 to 4, until it waits or stops.
 ghost use mathlib.Core.Path.{_≡_};
-ghost use Prim.Native.Nat.{ℕ, _+_, _-_, _≤_, _<_};
-ghost use lib.ListN.{length, getD};
+ghost use Prim.Native.Nat.{_+_, _-_, _≤_, _<_};
+ghost use lib.ListN.{length};
 ghost use lib.Dec.{ltb};
 ghost use Rattle.method.specs.If.{if_then_else_};
 ghost use Rattle.network.specs.Layout.{lenAt, Laid};

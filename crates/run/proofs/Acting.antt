@@ -15,6 +15,7 @@ use Rattle.method.specs.Rules.{Phase, unstarted, started, stopped, Choice}
 use Rattle.method.specs.Work.{Site, became, work, worksOn, begun}
 use Rattle.method.specs.Steps.{sents, put, Kind, taken, idle, Stepped, starting, handed, delivering}
 use Rattle.method.proofs.Working.{SiteOk, work-ok}
+use Rattle.method.proofs.Runs.{begun-site, handed-site}
 use Rattle.network.specs.Layout.{netOf, Laid}
 use Rattle.cells.specs.Part.{Part, phaseOf, siteOf, stateOf}
 use Rattle.cells.specs.Stores.{Stored, counted, begun as begunPart}
@@ -26,7 +27,7 @@ use Rattle.cells.proofs.Caching.{begin-caches, hand-caches}
 use Rattle.node.specs.Working.{Working, Waits, Worked}
 use Rattle.node.proofs.Least.{least-same}
 use Rattle.run.specs.Resting.{Resting, Acted}
-use Rattle.run.proofs.Rested.{put-state, begun-site, handed-site, table-low, i-low, ready, still}
+use Rattle.run.proofs.Rested.{put-state, table-low, i-low, ready, still}
 
 module _ (g : List ℕ) (la : Laid g) (m : ℕ → Part) (re : Resting g m) (i : ℕ) (node : IsNode (getD g 0 0) i) where
   abbrev ss : ℕ → List Msg

@@ -8,19 +8,16 @@ use mathlib.Core.List.{List, _∷_}
 use Prim.Native.Nat.{ℕ, suc, _≤_, _<_}
 use native.Mathlib.Omega.{arith}
 use lib.Dec.{ltb, eqb}
-use lib.ListN.{length, getD}
+use lib.ListN.{getD}
 use borrow.Author.Tests.{eqb-true, eqb-false, eq-eqb, ne-eqb}
-use Rattle.method.specs.Network.{Net, IsNode}
+use Rattle.method.specs.Network.{IsNode}
 use Rattle.method.specs.Message.{Msg, len, lastLen, item, sentAfter}
-use Rattle.method.specs.Rules.{Filled, unstarted, started, to₁, to₃, rests, rule₃, turn}
-use Rattle.method.specs.Work.{Site, heard, next, turnAt, became, work, begun}
-use Rattle.method.specs.Steps.{State, sents, put, handed}
-use Rattle.method.proofs.Table.{Has}
-use Rattle.method.proofs.View.{begun-ok}
+use Rattle.method.specs.Rules.{started, to₁, to₃, rests, rule₃, turn}
+use Rattle.method.specs.Work.{Site, heard, next, turnAt, work}
+use Rattle.method.specs.Steps.{sents, put, handed}
 use Rattle.method.proofs.Again.{turn-held}
 use Rattle.method.proofs.Turns.{Waiting}
 use Rattle.method.proofs.Working.{SiteOk}
-use Rattle.method.proofs.Runs.{Inv}
 use Rattle.method.proofs.Enough.{work-rests}
 use Rattle.network.specs.Layout.{netOf, Laid}
 use Rattle.cells.specs.Part.{Part, siteOf, stateOf}
@@ -41,29 +38,6 @@ put-state m n i there s e = fun-ext (λ j. go j (eqb j i) refl)
     go : (j : ℕ) (b : Bool) → eqb j i ≡ b → siteOf (n j) ≡ cond b s (siteOf (m j))
     go j true q = ap (λ (k : ℕ). siteOf (n k)) (eqb-true j i q) ∙ e
     go j false q = ap siteOf (there j (eqb-false j i q))
-
--- a node begins, its arcs as they are
-module _ (net : Net) (st : State) (inv : Inv net st) (i : ℕ) where
-  pub begun-site : st i .node .phase ≡ unstarted → SiteOk net i (sents st) (became (st i) (begun i))
-  begun-site e =
-      let sk = inv i .site in
-      record {
-        ok = begun-ok net i (heard (sents st) (st i)) (λ j y h. subst (λ (r : List Filled). Has y r) (sk .ok .blank e .1) (sk .ok .heard j y h));
-        taken-le = sk .taken-le;
-        delivered-le = sk .delivered-le;
-      }
-
-  -- its arc to h hands over a message
-  pub handed-site : (h : ℕ) → st i .delivered h < length (sents st h) → SiteOk net i (sents st) (handed (st i) h)
-  handed-site h lt = record { ok = inv i .site .ok; taken-le = λ k. more k (eqb k h); delivered-le = λ k. fits k (eqb k h) refl }
-    where
-      more : (k : ℕ) (b : Bool) → st i .taken k ≤ cond b (suc (st i .delivered k)) (st i .delivered k)
-      more k true = omega (arith, inv i .site .taken-le k)
-      more k false = inv i .site .taken-le k
-
-      fits : (k : ℕ) (b : Bool) → eqb k h ≡ b → cond b (suc (st i .delivered k)) (st i .delivered k) ≤ length (sents st k)
-      fits k true e = subst (λ (j : ℕ). st i .delivered j < length (sents st j)) (sym (eqb-true k h e)) lt
-      fits k false e = inv i .site .delivered-le k
 
 module _ (g : List ℕ) (la : Laid g) (m : ℕ → Part) (re : Resting g m) where
   pub sent-low : (j : ℕ) → IsNode (getD g 0 0) j → m j 1 ≤ 257

@@ -1,6 +1,6 @@
 // The run over a step list, equal to the method's: starts, deliveries, steps, counts.
 ghost use mathlib.Core.Path.{_≡_};
-ghost use Prim.Native.Nat.{ℕ, _+_, _-_, _≤_, _<_};
+ghost use Prim.Native.Nat.{_+_, _-_, _<_};
 ghost use lib.ListN.{length, getD};
 ghost use Rattle.method.specs.Network.{IsNode};
 ghost use Rattle.method.specs.Steps.{byteStep, starting, delivering, step, counted};

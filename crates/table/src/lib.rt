@@ -22,7 +22,7 @@ pub enum Outcome {
 }
 
 // How the records of a file end: without the end mark, with it, or with a refusal.
-enum Ending {
+pub enum Ending {
     Unfinished,
     Marked,
     Faulty(u32),
