@@ -1,10 +1,11 @@
 -- How a call answers: one number, with the refusal in the low byte and the values above it; and what a lent room holds then.
 -- Assumes nothing.
-use Prim.Native.Nat.{ℕ, zero, suc, _+_, _-_, _*_}
+use Prim.Native.Nat.{ℕ, zero, suc, _+_, _*_}
 use mathlib.Core.List.{List}
 use lib.ListN.{set}
 use Rattle.method.specs.Entries.{Entry}
 use Rattle.method.specs.Marks.{distanceOf, hopOf}
+use Rattle.text.specs.Handed.{place}
 use Rattle.table.specs.Reader.{Read, refusal, says}
 use Rattle.table.specs.declared.Outcome.{Outcome}
 use Rattle.table.specs.declared.Outcome.the-variants.{Written, Refused}
@@ -27,11 +28,7 @@ abbrev pub outcomeAnswer : Outcome → ℕ
 outcomeAnswer (Written k) = values k 0
 outcomeAnswer (Refused r) = r
 
--- where the distance of node i's entry for y stands in a room for all entries, 16 by 16 by 2; its first hop is right behind it
-abbrev pub place : ℕ → ℕ → ℕ
-place i y = 2 * (16 * (i - 1) + (y - 1))
-
--- node i's entry for y in such a room
+-- node i's entry for y in a room for all entries, 16 by 16 by 2
 abbrev pub withEntry : ℕ → ℕ → Entry → List ℕ → List ℕ
 withEntry i y e room = set (set room (place i y) (distanceOf e)) (place i y + 1) (hopOf e)
 

@@ -5,32 +5,27 @@ use mathlib.Core.Bool.{Bool, true, false}
 use mathlib.Core.List.{List}
 use Prim.Native.Nat.{ℕ, zero, suc, _-_, _≤_, min}
 use native.Mathlib.Omega.{arith}
-use lib.ListN.{length, take, drop, length-take, length-append, drop-of-length-le}
+use lib.ListN.{length, getD, take, drop, length-take, length-append, drop-of-length-le}
 use lib.Seq.{take-all, take-length, drop-length}
 use lib.Dec.{ltb}
 use borrow.Author.Tests.{ltb-true, ltb-false}
 use borrow.Rule.Slice.PartAt.{part-to-end}
-use Rattle.method.specs.Network.{Net, IsNode}
-use Rattle.method.specs.Steps.{State, Step, Counts, steps, refused10}
-use Rattle.method.specs.Entries.{entry}
-use Rattle.method.specs.Marks.{distanceOf, hopOf}
+use Rattle.method.specs.Network.{IsNode, Accepted}
+use Rattle.method.specs.Steps.{steps}
 use Rattle.method.proofs.Proved.{laws as method-laws}
-use Rattle.network.specs.Refusal.{when, _else_}
-use Rattle.network.specs.Bytes.{network, refusal}
-use Rattle.network.specs.Layout.{netOf, Laid}
-use Rattle.network.specs.Answer.{answer}
-use Rattle.network.specs.declared.Checked.{Checked}
+use Rattle.network.specs.Bytes.{network, refusal, headRefusal}
+use Rattle.network.specs.Room.{unless, begins}
 use Rattle.network.proofs.Laws.{checks}
-use Rattle.cells.specs.Part.{Part, stateOf}
-use Rattle.run.specs.Ran.{Ran}
-use Rattle.entries.specs.Read.{stoppedTo, entryOf}
+use Rattle.network.proofs.Refused.{none}
+use Rattle.network.proofs.Header.{header}
 use Rattle.text.specs.Lines.{houseText, refusedLine}
-use Rattle.text.specs.Handed.{entryAt}
+use Rattle.text.specs.Handed.{entryOf, entryAt}
 use Rattle.text.specs.Room.{Front}
-use Rattle.text.specs.Handed.{entryOf as entryOfTwo}
 use Rattle.text.proofs.Laws.{laws as text-laws}
-use Rattle.house.specs.House.{asked, networkBytes, stepBytes, tableText, textOf, text}
-use Rattle.house.specs.Handing.{Rows}
+use Rattle.calls.specs.Answers.{withRows}
+use Rattle.calls.specs.Calls.{nodesOf, entryAfter, tenRefusal, runRefusal, countsAfter, countsRoom, entriesRoom}
+use Rattle.outcome.proofs.Placed.{length-rows, rows-stand}
+use Rattle.house.specs.House.{asked, networkBytes, stepBytes, textOf, text}
 
 -- the same text
 pub same-front : (room after : List ℕ) (r : ℕ) (t u : List ℕ) → t ≡ u → Front room t after r → Front room u after r
@@ -43,31 +38,55 @@ within-room room text after r front =
     let sum = length-append text (drop (length text) room) in
     omega (arith, front .whole)
 
--- the entries that stand in the array are the run's: a known distance is no mark
-module _ (g bs : List ℕ) (m : ℕ → Part) (c : Counts) (laid : Laid g) (ran : Ran g bs m c) (l : List ℕ) (rows : Rows (stateOf m) (netOf g .n) (netOf g .n) l) where
-  same-entry : (i k : ℕ) → IsNode (netOf g .n) i → IsNode (netOf g .n) k → entryAt l i k ≡ entry (netOf g) (steps bs) i k
-  same-entry i k at to =
-      let s = rows .stand i k at to in
-      let e : entryOf (stateOf m i) k ≡ entry (netOf g) (steps bs) i k = ap (λ (st : State). entryOf (st i) k) (ran .state) in
-      ap₂ entryOfTwo (s .0 ∙ ap distanceOf e) (s .1 ∙ ap hopOf e)
-      ∙ text-laws .handed (entry (netOf g) (steps bs) i k)
-      (λ d h is. method-laws (netOf g) .j-no-mark (laid .accepted .sizes) (laid .accepted .valid) (steps bs) i k d h at is)
+-- the text of a network's bytes and step bytes
+abbrev pub textFor : List ℕ → List ℕ → List ℕ
+textFor net bs = textOf (runRefusal net bs) (network net) (steps bs)
 
-  -- so the text written from the array is the run's
-  pub handed-text : houseText (c .taken) (c .idle) (c .unknown) (stoppedTo (stateOf m) (netOf g .n)) (netOf g .n) (entryAt l) ≡ tableText (netOf g) (steps bs)
-  handed-text =
-      text-laws .same-text (c .taken) (c .idle) (c .unknown) (stoppedTo (stateOf m) (netOf g .n)) (netOf g .n) (entryAt l) (entry (netOf g) (steps bs)) same-entry
-      ∙ ap₂ (λ (c : Counts) (st : State). houseText (c .taken) (c .idle) (c .unknown) (stoppedTo st (netOf g .n)) (netOf g .n) (entry (netOf g) (steps bs)))
-      (ran .counted) (ran .state)
+-- where they are refused it is the refusal's line
+pub refused-text : (net bs : List ℕ) (r : ℕ) → r ≡ runRefusal net bs → (r ≡ 0 → ⊥) → refusedLine r ≡ textFor net bs
+refused-text net bs zero is ne = absurd (ne refl)
+refused-text net bs (suc r) is ne = ap (λ (q : ℕ). textOf q (network net) (steps bs)) is
 
-  pub front-text : (room after : List ℕ) (r stopped : ℕ) → stopped ≡ stoppedTo (stateOf m) (netOf g .n)
-      → Front room (houseText (c .taken) (c .idle) (c .unknown) stopped (netOf g .n) (entryAt l)) after r → Front room (tableText (netOf g) (steps bs)) after r
-  front-text room after r stopped e front =
-      same-front room after r _ _
-      (ap (λ (S : ℕ). houseText (c .taken) (c .idle) (c .unknown) S (netOf g .n) (entryAt l)) e ∙ handed-text) front
+-- where they are not, it is that of the counts and entries that were handed over
+module _ (net bs : List ℕ) (z : runRefusal net bs ≡ 0) where
+  taken : refusal net ≡ 0
+  taken = none (refusal net) (tenRefusal net bs) z .0
+
+  accepted : Accepted (network net)
+  accepted = checks .bytes-accepted net taken
+
+  pub three : 3 ≤ length net
+  unfolding refusal
+  three = header net (none (headRefusal net) _ taken .0) .three
+
+  module _ (room : List ℕ) (size : length room ≡ 512) where
+    abbrev rows : List ℕ
+    rows = withRows (entryAfter net bs) (nodesOf net) (nodesOf net) room
+
+    written : (room′ : List ℕ) → room′ ≡ entriesRoom net bs room → room′ ≡ rows
+    written room′ e = e ∙ ap (λ (r : ℕ). unless r room rows) z
+
+    pub whole-room : (room′ : List ℕ) → room′ ≡ entriesRoom net bs room → length room′ ≡ 512
+    whole-room room′ e = ap length (written room′ e) ∙ length-rows (entryAfter net bs) (nodesOf net) (nodesOf net) room ∙ size
+
+    -- the entries that stand there are the run's: a known distance is no mark
+    same-entry : (i k : ℕ) → IsNode (nodesOf net) i → IsNode (nodesOf net) k → entryAt rows i k ≡ entryAfter net bs i k
+    same-entry i k at to =
+        let few = accepted .sizes .nodes .1 in
+        let s = rows-stand (entryAfter net bs) (nodesOf net) (nodesOf net) room i k few few size at to in
+        ap₂ entryOf (s .0) (s .1)
+        ∙ text-laws .handed (entryAfter net bs i k)
+        (λ d h is. method-laws (network net) .j-no-mark (accepted .sizes) (accepted .valid) (steps bs) i k d h at is)
+
+    pub handed-text : (n : ℕ) (numbers numbers′ room′ : List ℕ) → n ≡ nodesOf net → numbers′ ≡ countsRoom net bs numbers → room′ ≡ entriesRoom net bs room
+        → houseText (getD numbers′ 0 0) (getD numbers′ 1 0) (getD numbers′ 2 0) (getD numbers′ 3 0) n (entryAt room′) ≡ textFor net bs
+    handed-text n numbers numbers′ room′ en N R =
+        rw (N ∙ ap (λ (r : ℕ). unless r numbers (begins (countsAfter net bs) numbers)) z, written room′ R, en)
+        (text-laws .same-text _ _ _ _ (nodesOf net) _ (entryAfter net bs) same-entry
+        ∙ ap (λ (r : ℕ). textOf r (network net) (steps bs)) (sym z))
 
 -- a part that would end behind the list ends with it
-pub take-within : (k : ℕ) (s : List ℕ) → take (min k (length s)) s ≡ take k s
+take-within : (k : ℕ) (s : List ℕ) → take (min k (length s)) s ≡ take k s
 take-within k s = go (ltb (length s) k) refl
   where
     go : (b : Bool) → ltb (length s) k ≡ b → take (min k (length s)) s ≡ take k s
@@ -80,7 +99,7 @@ take-within k s = go (ltb (length s) k) refl
         let m : min k (length s) ≡ k = omega arith in
         ap (λ (n : ℕ). take n s) m
 
-pub drop-within : (k : ℕ) (s : List ℕ) → drop (min k (length s)) s ≡ drop k s
+drop-within : (k : ℕ) (s : List ℕ) → drop (min k (length s)) s ≡ drop k s
 drop-within k s = go (ltb (length s) k) refl
   where
     go : (b : Bool) → ltb (length s) k ≡ b → drop (min k (length s)) s ≡ drop k s
@@ -95,49 +114,15 @@ drop-within k s = go (ltb (length s) k) refl
 
 -- the two parts of an input are the network's bytes and the steps'
 module _ (input : List ℕ) (end : ℕ) (is : end ≡ min (asked input) (length input)) where
-  pub first-part : take end input ≡ networkBytes input
+  first-part : take end input ≡ networkBytes input
   first-part = ap (λ (n : ℕ). take n input) is ∙ take-within (asked input) input
 
-  pub second-part : take (length input - end) (drop end input) ≡ stepBytes input
+  second-part : take (length input - end) (drop end input) ≡ stepBytes input
   second-part = part-to-end input end ∙ ap (λ (n : ℕ). drop n input) is ∙ drop-within (asked input) input
 
   pub first-size : end ≡ length (take end input)
   first-size = let e = length-take end input in omega arith
 
-  pub answered : (a : Checked) → a ≡ answer (refusal (take end input)) (network (take end input)) → a ≡ answer (refusal (networkBytes input)) (network (networkBytes input))
-  answered a e = e ∙ ap (λ (s : List ℕ). answer (refusal s) (network s)) first-part
-
--- where they are refused, so is the input
-pub refused-text : (input : List ℕ) (a : Checked) → a ≡ answer (refusal (networkBytes input)) (network (networkBytes input)) → (a .refusal ≡ 0 → ⊥)
-    → refusedLine (a .refusal) ≡ text input
-refused-text input a e ne =
-    go (a .refusal) (ap (λ (a : Checked). a .refusal) e ∙ checks .answer-refusal (refusal (networkBytes input)) (network (networkBytes input))) ne
-  where
-    net : Net
-    net = network (networkBytes input)
-
-    bs : List Step
-    bs = steps (stepBytes input)
-
-    go : (f : ℕ) → f ≡ refusal (networkBytes input) → (f ≡ 0 → ⊥) → refusedLine f ≡ text input
-    go zero is ne = absurd (ne refl)
-    go (suc f) is ne = ap (λ (r : ℕ). textOf (r else when (refused10 net bs) 10) net bs) is
-
--- where they are not, they are laid out for the run, and the text is the run's: it never gives refusal 10
-module _ (input : List ℕ) (a : Checked) (e : a ≡ answer (refusal (networkBytes input)) (network (networkBytes input))) (z : a .refusal ≡ 0) where
-  none : refusal (networkBytes input) ≡ 0
-  none = sym (ap (λ (a : Checked). a .refusal) e ∙ checks .answer-refusal (refusal (networkBytes input)) (network (networkBytes input))) ∙ z
-
-  laid : Laid (a .laid) × (netOf (a .laid) ≡ network (networkBytes input))
-  laid = checks .bytes-laid (networkBytes input) a e z
-
-  pub taken-laid : Laid (a .laid)
-  taken-laid = laid .0
-
-  pub taken-text : tableText (netOf (a .laid)) (steps (stepBytes input)) ≡ text input
-  taken-text =
-      let net = network (networkBytes input) in
-      let bs = steps (stepBytes input) in
-      let acc = checks .bytes-accepted (networkBytes input) none in
-      ap (λ (net : Net). tableText net bs) (laid .1)
-      ∙ ap₂ (λ (r : ℕ) (full : Bool). textOf (r else when full 10) net bs) (sym none) (sym (method-laws net .j-never-10 (acc .sizes) (acc .valid) bs))
+  -- so their text is the input's
+  pub parts-text : textFor (take end input) (take (length input - end) (drop end input)) ≡ text input
+  parts-text = ap₂ textFor first-part second-part

@@ -4,12 +4,12 @@ use Prim.Native.Nat.{ℕ, zero, suc}
 use mathlib.Core.List.{List}
 use lib.ListN.{take, drop}
 use Rattle.method.specs.Network.{Net}
-use Rattle.method.specs.Steps.{Step, steps, run, counts, refused10}
+use Rattle.method.specs.Steps.{Step, steps, run, counts}
 use Rattle.method.specs.Entries.{entry}
-use Rattle.network.specs.Refusal.{when, _else_}
-use Rattle.network.specs.Bytes.{count, size, network, refusal}
+use Rattle.network.specs.Bytes.{count, size, network}
 use Rattle.entries.specs.Read.{stoppedTo}
 use Rattle.text.specs.Lines.{houseText, refusedLine}
+use Rattle.calls.specs.Calls.{runRefusal}
 
 -- "as many as its arc count asks for": always 3 or more, so an input under 3 bytes is all network
 abbrev pub asked : List ℕ → ℕ
@@ -25,7 +25,7 @@ stepBytes input = drop (asked input) input
 
 -- "Input that ends inside the network is refusal 1, in its usual place"; the run's refusal, 10, comes after the network's
 abbrev pub inputRefusal : List ℕ → ℕ
-inputRefusal input = refusal (networkBytes input) else when (refused10 (network (networkBytes input)) (steps (stepBytes input))) 10
+inputRefusal input = runRefusal (networkBytes input) (stepBytes input)
 
 -- "one line of counts" ("S is how many nodes have stopped"), "then for each node and target in rising order" its line
 abbrev pub tableText : Net → List Step → List ℕ

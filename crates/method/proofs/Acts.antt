@@ -15,7 +15,7 @@ use Rattle.method.specs.Network.{Net, IsArc, Valid}
 use Rattle.method.specs.Distance.{Chain, here, via, Distance, Starts, Right}
 use Rattle.method.specs.Message.{Msg, label, len, end, Item, finite, infinite, lastLen, item, sendLen}
 use Rattle.method.specs.Rules.{Filled, started, stopped, Node, Choice, stop, wait, fill}
-use Rattle.method.proofs.Numbers.{Among}
+use Rattle.method.specs.Distinct.{Among}
 use Rattle.method.proofs.Sent.{Labelled, Complete, Good, Under, complete, item-lastLen, sendLen-last, sendLen-labels, sendLen-ends, sendLen-good}
 use Rattle.method.proofs.Choosing.{Before, before-more}
 use Rattle.method.proofs.Chains.{snoc}

@@ -14,7 +14,8 @@ use Rattle.method.specs.Rules.{Filled, Phase, unstarted, started, stoppe
 use Rattle.method.specs.Steps.{sents, Step, run, overfull, refused10}
 use Rattle.method.specs.Entries.{known, entry}
 use Rattle.method.specs.Marks.{unreachableMark}
-use Rattle.method.proofs.Numbers.{Distinct, few}
+use Rattle.method.specs.Distinct.{Distinct}
+use Rattle.method.proofs.Numbers.{few}
 use Rattle.method.proofs.Chains.{leads-to-node}
 use Rattle.method.proofs.Sent.{parts, labels-distinct, lengths-few}
 use Rattle.method.proofs.Table.{In, Has, has-entry, targets, targets-length, paced-top}

@@ -14,7 +14,7 @@ use Rattle.method.specs.Work.{heard}
 use Rattle.method.specs.Steps.{sents, Step, run}
 use Rattle.method.specs.Entries.{known, table, entry}
 use Rattle.method.specs.Laws.{Leads, arrived, hop}
-use Rattle.method.proofs.Numbers.{Among}
+use Rattle.method.specs.Distinct.{Among}
 use Rattle.method.proofs.Sent.{Labelled}
 use Rattle.method.proofs.Chains.{own-distance}
 use Rattle.method.proofs.Table.{Has, has-entry}

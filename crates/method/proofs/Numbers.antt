@@ -1,4 +1,4 @@
--- Lists of numbers: which number is in one, and that numbers from 1 to n that differ are n at most.
+-- Numbers from 1 to n that differ are n at most.
 -- Assumes nothing.
 use mathlib.Core.Path.{_≡_, refl, sym, ap, subst, _∙_}
 use mathlib.Core.Logic.{_⊎_, inl, inr, _≢_}
@@ -9,17 +9,8 @@ use native.Mathlib.Omega.{arith}
 use lib.Dec.{eqb}
 use lib.ListN.{length}
 use borrow.Author.Tests.{eqb-true, eqb-false}
+use Rattle.method.specs.Distinct.{Among, Distinct}
 use Rattle.method.specs.Network.{IsNode}
-
--- the number is in the list
-abbrev pub Among : ℕ → List ℕ → Type 0
-Among y [] = ⊥
-Among y (x ∷ xs) = (y ≡ x) ⊎ Among y xs
-
--- no number twice
-abbrev pub Distinct : List ℕ → Type 0
-Distinct [] = Unit {0}
-Distinct (x ∷ xs) = (Among x xs → ⊥) × Distinct xs
 
 abbrev without : ℕ → List ℕ → List ℕ
 without k [] = []

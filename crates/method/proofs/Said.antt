@@ -13,7 +13,7 @@ use Rattle.method.specs.Rules.{Filled, Phase, unstarted, started, stoppe
 use Rattle.method.specs.Work.{heard}
 use Rattle.method.specs.Steps.{sents, Step, run}
 use Rattle.method.specs.Entries.{Entry, unknown, unreachable, known, find, said, phase, table, entry, Stopped}
-use Rattle.method.proofs.Numbers.{Among, Distinct}
+use Rattle.method.specs.Distinct.{Among, Distinct}
 use Rattle.method.proofs.Sent.{Labelled, Good, labels-distinct}
 use Rattle.method.proofs.Chains.{own-distance, same-distance, same-hop}
 use Rattle.method.proofs.Table.{In, Has, Once, has-entry, in-has, in-more, Found, find-ok, find-in}

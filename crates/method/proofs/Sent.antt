@@ -12,7 +12,7 @@ use borrow.Author.Tests.{eqb-true, eqb-false}
 use Rattle.method.specs.Network.{Arc}
 use Rattle.method.specs.Distance.{Chain, Distance}
 use Rattle.method.specs.Message.{Msg, label, len, end, Item, finite, infinite, lastLen, item, sendLen}
-use Rattle.method.proofs.Numbers.{Among, Distinct}
+use Rattle.method.specs.Distinct.{Among, Distinct}
 
 -- the labels of a list, and how many lengths and ends it has
 abbrev pub labels : List Msg → List ℕ

@@ -13,7 +13,7 @@ use lib.ListN.{length}
 use borrow.Author.Tests.{eqb-true, eqb-false, eq-eqb}
 use Rattle.method.specs.Rules.{Filled, has}
 use Rattle.method.specs.Entries.{find, lastDistance}
-use Rattle.method.proofs.Numbers.{Among, Distinct}
+use Rattle.method.specs.Distinct.{Among, Distinct}
 
 -- the entry is in the table
 abbrev pub In : Filled → List Filled → Type 0

@@ -1,4 +1,5 @@
 pub mod If
+pub mod Distinct
 pub mod Network
 pub mod Distance
 pub mod Message

@@ -1,6 +1,6 @@
 -- What is answered, of a network as a whole and arc by arc.
 -- Assumes nothing.
-use mathlib.Core.Path.{_≡_, refl, sym, _∙_, ap, subst}
+use mathlib.Core.Path.{_≡_, refl, sym, _∙_, ap}
 use mathlib.Core.List.{List, [], _∷_}
 use Prim.Native.Nat.{ℕ, zero, suc}
 use native.Mathlib.Omega.{arith}
@@ -14,8 +14,8 @@ use Rattle.network.specs.Answer.{blank, headed, withArc, withArcs, laidO
 use Rattle.network.specs.Layout.{netOf, Laid}
 use Rattle.network.specs.declared.Checked.{Checked}
 use Rattle.network.specs.Marks.{marked, marksRefusal, gathered}
-use Rattle.network.proofs.Sound.{sized, Taken, taken}
-use Rattle.network.proofs.LaidOut.{laid, laid-network}
+use Rattle.network.proofs.Sound.{sized, taken}
+use Rattle.network.proofs.LaidOut.{laid-as}
 use Rattle.network.proofs.Marks.{marks-refuse-all}
 
 -- the answer says the refusal
@@ -57,6 +57,5 @@ pub answer-laid : (n lmax : ℕ) (ar : List Arc) (r : ℕ) (c : Checked) → c �
     → Laid (c .laid) × (netOf (c .laid) ≡ house n lmax ar)
 answer-laid n lmax ar r c e z ok =
     let r0 : r ≡ 0 = sym (ap (λ (d : Checked). d .refusal) e ∙ settled-refusal r (laidOut (house n lmax ar))) ∙ z in
-    let t : Taken n lmax ar = taken n lmax ar (ok r0) in
     let g : c .laid ≡ laidOut (house n lmax ar) = ap (λ (d : Checked). d .laid) e ∙ ap (λ (q : ℕ). answer q (house n lmax ar) .laid) r0 in
-    (subst Laid (sym g) (laid n lmax ar t), ap netOf g ∙ laid-network n lmax ar t)
+    laid-as n lmax ar (taken n lmax ar (ok r0)) (c .laid) g

@@ -103,3 +103,7 @@ module _ (n lmax : ℕ) (ar : List Arc) (t : Taken n lmax ar) where
       found : (i h : ℕ) → i < 17 → h < 17 → lenAt G i h ≢ 255 → (lenAt G i h ≡ lenAt g₀ i h) ⊎ IsArc ar i h (lenAt G i h) → IsArc ar i h (lenAt G i h)
       found i h li lh ne (inl e) = absurd (ne (e ∙ cell-blank n lmax (length ar) i h li lh))
       found i h li lh ne (inr m) = m
+
+  -- so is what is equal to it
+  pub laid-as : (g : List ℕ) → g ≡ G → Laid g × (netOf g ≡ house n lmax ar)
+  laid-as g e = (subst Laid (sym e) laid, ap netOf e ∙ laid-network)

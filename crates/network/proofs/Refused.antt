@@ -1,12 +1,14 @@
--- What is known where nothing is refused.
+-- What is known where nothing is refused, and where something is.
 -- Assumes nothing.
 use mathlib.Core.Path.{_≡_, refl}
 use mathlib.Core.Bool.{Bool, true, false, _||_, true≢false}
+use mathlib.Core.List.{List}
 use Prim.Native.Nat.{ℕ, zero, suc, _≤_, _<_}
 use native.Mathlib.Omega.{arith}
 use lib.Dec.{ltb, eqb}
 use borrow.Author.Tests.{eqb-false, ltb-false, ne-eqb, le-ltb}
 use Rattle.network.specs.Refusal.{when, _else_, outside}
+use Rattle.network.specs.Room.{unless}
 
 -- of two refusals, none
 pub none : (q r : ℕ) → q else r ≡ 0 → (q ≡ 0) × (r ≡ 0)
@@ -39,3 +41,8 @@ inside m y e = go (eqb y 0) (ltb m y) refl refl e
 
 pub not-outside : (m y : ℕ) → 1 ≤ y → y ≤ m → outside m y ≡ false
 not-outside m y h g = rw (ne-eqb y 0 (omega arith), le-ltb m y g)
+
+-- nothing is written where something is refused
+pub kept : (r : ℕ) (room new : List ℕ) → (r ≡ 0 → ⊥) → unless r room new ≡ room
+kept zero room new ne = absurd (ne refl)
+kept (suc r) room new ne = refl

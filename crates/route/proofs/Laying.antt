@@ -11,8 +11,10 @@ use lib.Dec.{eqb}
 use lib.ListN.{length, set, length-set, take, drop, take-append-drop}
 use lib.Seq.{take-suc-set, drop-set-lt}
 use borrow.Author.Tests.{eqb-true, eqb-false}
+use Rattle.method.specs.Steps.{steps}
 use Rattle.method.specs.Entries.{Entry, unknown, unreachable, known}
 use Rattle.method.specs.Marks.{unknownMark, unreachableMark, distanceOf}
+use Rattle.network.specs.Layout.{netOf}
 use Rattle.cells.specs.Part.{Part, stateOf}
 use Rattle.cells.specs.Caches.{Marks}
 use Rattle.entries.specs.Read.{entryOf}
@@ -80,12 +82,12 @@ module _ (m : ℕ → Part) (i y : ℕ) (q : Asked m i y) where
         go (known k h) w = record { asked = q; distance = k; hop = h; filled = w }
 
 module _ (m : ℕ → Part) (i y : ℕ) (w : OnWay m i y) where
-  on : On (w .asked .net) (w .asked .bytes) m (w .asked .counts) (w .asked .accepted) (w .asked .ran) y i
+  on : On (netOf (w .asked .net)) (w .asked .accepted) (steps (w .asked .bytes)) (stateOf m) (w .asked .ran .state) y i
   on = record { node = w .asked .node; distance = w .distance; hop = w .hop; filled = w .filled }
 
   pub fits : length (route (stateOf m) y i) ≤ 16
   fits =
-      omega (arith, route-few (w .asked .net) (w .asked .bytes) m (w .asked .counts) (w .asked .accepted) (w .asked .ran) y i on, w .asked .accepted .sizes .nodes .1)
+      omega (arith, route-few (netOf (w .asked .net)) (w .asked .accepted) (steps (w .asked .bytes)) (stateOf m) (w .asked .ran .state) y i on, w .asked .accepted .sizes .nodes .1)
 
   pub filled-answers : (room room′ : List ℕ) (r : ℕ) → r ≡ 0 + length (route (stateOf m) y i) → room′ ≡ laidIn room 0 (route (stateOf m) y i)
       → (Nodes r ≡ answerOf (entryOf (stateOf m i) y) (route (stateOf m) y i)) × (room′ ≡ roomOf (entryOf (stateOf m i) y) (route (stateOf m) y i) room)
@@ -97,16 +99,16 @@ module _ (m : ℕ → Part) (i y : ℕ) (w : OnWay m i y) where
   -- at the target
   pub arrives : i ≡ y → (at : ℕ) (room : List ℕ) → (at ≡ at + length (route (stateOf m) y i)) × (room ≡ laidIn room at (route (stateOf m) y i))
   arrives z at room =
-      let n = route-here (w .asked .net) (w .asked .bytes) m (w .asked .counts) (w .asked .accepted) (w .asked .ran) y i z in
+      let n = route-here (netOf (w .asked .net)) (w .asked .accepted) (steps (w .asked .bytes)) (stateOf m) (w .asked .ran .state) y i z in
       (omega (arith, ap length n), laid-none room at ∙ ap (laidIn room at) (sym n))
 
   -- one hop, to h
   module _ (ne : i ≢ y) (h : ℕ) (eh : h ≡ hopTo (stateOf m) y i) where
-    step : (v : On (w .asked .net) (w .asked .bytes) m (w .asked .counts) (w .asked .accepted) (w .asked .ran) y h) × (v .distance < w .distance)
+    step : (v : On (netOf (w .asked .net)) (w .asked .accepted) (steps (w .asked .bytes)) (stateOf m) (w .asked .ran .state) y h) × (v .distance < w .distance)
     unfolding on
     step =
-        subst (λ (k : ℕ). (v : On (w .asked .net) (w .asked .bytes) m (w .asked .counts) (w .asked .accepted) (w .asked .ran) y k) × (v .distance < w .distance)) (sym eh)
-        (nearer (w .asked .net) (w .asked .bytes) m (w .asked .counts) (w .asked .accepted) (w .asked .ran) y i on ne)
+        subst (λ (k : ℕ). (v : On (netOf (w .asked .net)) (w .asked .accepted) (steps (w .asked .bytes)) (stateOf m) (w .asked .ran .state) y k) × (v .distance < w .distance)) (sym eh)
+        (nearer (netOf (w .asked .net)) (w .asked .accepted) (steps (w .asked .bytes)) (stateOf m) (w .asked .ran .state) y i on ne)
 
     pub onward : OnWay m h y
     onward =
@@ -125,7 +127,7 @@ module _ (m : ℕ → Part) (i y : ℕ) (w : OnWay m i y) where
 
     route-is : route (stateOf m) y i ≡ h ∷ route (stateOf m) y h
     route-is =
-        route-next (w .asked .net) (w .asked .bytes) m (w .asked .counts) (w .asked .accepted) (w .asked .ran) y i on ne
+        route-next (netOf (w .asked .net)) (w .asked .accepted) (steps (w .asked .bytes)) (stateOf m) (w .asked .ran .state) y i on ne
         ∙ ap (λ (k : ℕ). k ∷ route (stateOf m) y k) (sym eh)
 
     module _ (at : ℕ) (room : List ℕ) (le : at + length (route (stateOf m) y i) ≤ length room) where

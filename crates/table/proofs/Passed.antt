@@ -12,7 +12,8 @@ use borrow.Author.Tests.{le-ltb, ltb-false, eq-eqb, ne-eqb, eqb-false}
 use Rattle.method.specs.Network.{IsNode}
 use Rattle.method.specs.Rules.{Filled}
 use Rattle.method.specs.Entries.{lastDistance, Sound, AllSound}
-use Rattle.method.proofs.Numbers.{Among, few}
+use Rattle.method.specs.Distinct.{Among}
+use Rattle.method.proofs.Numbers.{few}
 use Rattle.method.proofs.Table.{Has, Once, targets, targets-length, has-false}
 use Rattle.table.specs.File.{Head}
 use Rattle.table.specs.Reader.{wrong, wrongFields}

@@ -9,12 +9,12 @@ use Rattle.method.specs.Network.{IsNode, Accepted}
 use Rattle.method.specs.Rules.{started}
 use Rattle.method.specs.Steps.{steps}
 use Rattle.method.specs.Entries.{phase}
-use Rattle.method.proofs.Proved.{laws as method-laws}
 use Rattle.network.specs.Refusal.{when, outside}
 use Rattle.network.specs.Bytes.{network, refusal}
 use Rattle.network.proofs.Refused.{none, fails, inside, not-outside, second}
 use Rattle.network.proofs.Laws.{checks}
 use Rattle.table.specs.Laws.{Started}
+use Rattle.calls.proofs.Ten.{never-ten}
 use Rattle.calls.specs.Answers.{entryValues}
 use Rattle.calls.specs.Calls.{nodesOf, entryAfter, tenRefusal, runRefusal, entryRefusal, entryAnswer, isUnstarted, writeRefusal}
 
@@ -37,10 +37,6 @@ asked net bs i y e =
       target = inside (nodesOf net) y (fails (outside (nodesOf net) y) 11 (e3 .0) (omega arith));
     }
 
--- refusal 10 is never given
-never-ten : (net bs : List ℕ) → Accepted (network net) → tenRefusal net bs ≡ 0
-never-ten net bs a = ap (λ (t : Bool). when t 10) (method-laws (network net) .j-never-10 (a .sizes) (a .valid) (steps bs))
-
 not-eleven : (n y : ℕ) → IsNode n y → when (outside n y) 11 ≡ 0
 not-eleven n y at = ap (λ (t : Bool). when t 11) (not-outside n y (at .0) (at .1))
 
@@ -50,7 +46,7 @@ not-refused net bs i y a =
     second (refusal net) _ (a .taken)
     ∙ second (when (outside (nodesOf net) i) 11) _ (not-eleven (nodesOf net) i (a .node))
     ∙ second (when (outside (nodesOf net) y) 11) _ (not-eleven (nodesOf net) y (a .target))
-    ∙ never-ten net bs (a .accepted)
+    ∙ never-ten net bs (a .taken)
 
 -- so the answer is the entry
 pub answered : (net bs : List ℕ) (i y : ℕ) → Asked net i y → entryAnswer net bs i y ≡ entryValues (entryAfter net bs i y)

@@ -5,3 +5,4 @@ pub mod Asked
 pub mod Requirement2
 pub mod Requirement3
 pub mod Unique
+pub mod Apart

@@ -4,25 +4,21 @@ use mathlib.Core.Path.{_≡_, refl}
 use mathlib.Core.Logic.{_≢_}
 use mathlib.Core.Bool.{Bool, true, false}
 use mathlib.Core.List.{List}
-use Prim.Native.Nat.{ℕ, zero, suc}
+use Prim.Native.Nat.{ℕ}
 use lib.ListN.{length}
 use lib.Dec.{ltb}
-use Rattle.network.specs.Room.{unless}
 use Rattle.network.specs.Bytes.{refusal}
+use Rattle.network.proofs.Refused.{kept}
 use Rattle.network.specs.ArcList.{listRefusal}
 use Rattle.method.specs.If.{if_then_else_}
 use Rattle.table.specs.File.{one}
 use Rattle.table.specs.Reader.{Reading, refused, accepted, entryIn, reading}
 use Rattle.table.specs.Calls.{entryNumbers, entriesOutcome, entriesRoom}
 use Rattle.table.specs.declared.Outcome.the-variants.{Written, Refused}
+use Rattle.house.specs.House.{networkBytes, stepBytes}
 use Rattle.zaqfinell.specs.Requirement1.{outcomeRefusal, Requirement1}
 use Rattle.zaqfinell.proofs.Rows.{same, last, none-told, by-bytes, by-list, by-run, by-entry, by-write}
 use Rattle.zaqfinell.proofs.FileRows.{by-read, by-table}
-
--- a refusal keeps the room
-kept : (r : ℕ) (room new : List ℕ) → r ≢ 0 → unless r room new ≡ room
-kept zero room new isOne = absurd (isOne refl)
-kept (suc r) room new isOne = refl
 
 table-kept : (x : Reading) (room : List ℕ) → outcomeRefusal (entriesOutcome x room) ≢ 0 → entriesRoom x room ≡ room
 table-kept (refused r) room isOne = refl
@@ -38,6 +34,7 @@ requirement1 =
       check = λ net. same _ _ _ (last (refusal net)) (by-bytes net _ 0 none-told);
       list = λ n lmax ar. same _ _ _ (last (listRefusal n lmax ar)) (by-list n lmax ar _ 0 none-told);
       run = by-run;
+      house = λ input. by-run (networkBytes input) (stepBytes input);
       entry = by-entry;
       write = by-write;
       read = by-read;

@@ -4,3 +4,4 @@ pub mod Requirement2
 pub mod Requirement3
 pub mod Promises
 pub mod Unique
+pub mod Apart

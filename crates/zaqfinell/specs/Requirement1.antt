@@ -17,6 +17,7 @@ use Rattle.table.specs.Calls.{entriesRoom as tableRoom}
 use Rattle.table.specs.declared.Outcome.{Outcome}
 use Rattle.table.specs.declared.Outcome.the-variants.{Written, Refused}
 use Rattle.calls.specs.Calls.{runRefusal, countsRoom, entriesRoom, entryRefusal, routeRoom, fileAfter, writeRefusal, writeRoom}
+use Rattle.house.specs.House.{networkBytes, stepBytes, inputRefusal}
 use Rattle.zaqfinell.specs.Rows.{none, Exactly, byteRows, listRows, runRows, entryRows, writeRows, readRows, tableRows}
 
 -- the refusal of what was read, 0 for none
@@ -34,6 +35,7 @@ pub record Requirement1 : Type 0 where
   pub check : (net : List ℕ) → Exactly (byteRows net none) (refusal net)
   pub list : (n lmax : ℕ) (ar : List Arc) → Exactly (listRows n lmax ar none) (listRefusal n lmax ar)
   pub run : (net bs : List ℕ) → Exactly (runRows net bs) (runRefusal net bs)
+  pub house : (input : List ℕ) → Exactly (runRows (networkBytes input) (stepBytes input)) (inputRefusal input)
   pub entry : (net bs : List ℕ) (i y : ℕ) → Exactly (entryRows net bs i y) (entryRefusal net bs i y)
   pub write : (net bs : List ℕ) (i wide : ℕ) → Exactly (writeRows net bs i (length (fileAfter net bs i)) wide) (writeRefusal net bs i wide)
   pub read : (s : List ℕ) (y : ℕ) → Exactly (readRows s y) (readRefusal (entryRead one s y))

@@ -1,21 +1,53 @@
-// The calls that the firmware links: numbers and byte buffers in, one number out.
-ghost use mathlib.Core.Path.{_≡_};
-ghost use Rattle.network.specs.Bytes.{refusal};
-ghost use Rattle.text.specs.Room.{Front};
-ghost use Rattle.house.specs.House.{text};
+// The calls that the firmware links: numbers and byte buffers in, one number out. What each promises is in specs/Promises.
+ghost use Rattle.zaqfinell.specs.Promises.{CheckPromise, RunPromise, EntryPromise, RoutePromise, HousePromise};
 
 // The refusal of a network's bytes, or 0.
 #[no_mangle]
 pub extern "C" fn zaq_check_network(net: &[u8]) -> u32
-    ensures { λ r. ⌜ r ≡ refusal (now (net .entry)) ⌝ }
+    ensures { λ r. ⌜ CheckPromise (now (net .entry)) r ⌝ }
 {
     network::check(net)
+}
+
+// The whole outcome of a run: the refusal, or 0 with the counts and every entry.
+#[no_mangle]
+pub extern "C" fn zaq_run(
+    net: &[u8],
+    steps: &[u8],
+    counts: &mut [u64; 4],
+    entries: &mut [u16; 512],
+) -> u32
+    ensures { λ r. ⌜ RunPromise (now (net .entry)) (now (steps .entry)) (now (counts .entry)) (now (entries .entry)) r (now (counts .exit)) (now (entries .exit)) ⌝ }
+{
+    outcome::outcome(net, steps, counts, entries)
+}
+
+// One entry of one node after a run.
+#[no_mangle]
+pub extern "C" fn zaq_entry(net: &[u8], steps: &[u8], node: u32, target: u32) -> u32
+    ensures { λ r. ⌜ EntryPromise (now (net .entry)) (now (steps .entry)) node target r ⌝ }
+{
+    ask::entry(net, steps, node, target)
+}
+
+// The nodes on the way from a node to a target after a run.
+#[no_mangle]
+pub extern "C" fn zaq_route(
+    net: &[u8],
+    steps: &[u8],
+    node: u32,
+    target: u32,
+    room: &mut [u8; 16],
+) -> u32
+    ensures { λ r. ⌜ RoutePromise (now (net .entry)) (now (steps .entry)) node target (now (room .entry)) r (now (room .exit)) ⌝ }
+{
+    ask::route(net, steps, node, target, room)
 }
 
 // What "House table" writes for an input, at the beginning of the room; its length.
 #[no_mangle]
 pub extern "C" fn zaq_house_table(input: &[u8], room: &mut [u8; 8192]) -> usize
-    ensures { λ r. ⌜ Front (now (room .entry)) (text (now (input .entry))) (now (room .exit)) r ⌝ }
+    ensures { λ r. ⌜ HousePromise (now (input .entry)) (now (room .entry)) r (now (room .exit)) ⌝ }
 {
     house::house_table(input, room)
 }

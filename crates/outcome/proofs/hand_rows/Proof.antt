@@ -1,24 +1,25 @@
 -- `hand_rows`: one node's row more at each turn.
 use Prim.Native.Nat.{_-_, _≤_}
-use mathlib.Core.Path.{_≡_}
+use mathlib.Core.Path.{_≡_, refl}
 use lib.ListN.{length}
 use Rattle.cells.specs.Part.{cells, stateOf}
-use Rattle.house.specs.Handing.{Rows}
-use Rattle.house.proofs.Handing.{rows-begin, rows-next}
+use Rattle.entries.specs.Read.{entryOf}
+use Rattle.calls.specs.Answers.{withRows}
+use Rattle.outcome.proofs.Handing.{rows-next}
 use borrow.Author.Needs.{needs}
 use native.Mathlib.Omega.{arith}
-use Rattle.house.proofs.hand_rows.Statement.{statement}
-use Rattle.house.proofs.hand_rows.Tie as tie
+use Rattle.outcome.proofs.hand_rows.Statement.{statement}
+use Rattle.outcome.proofs.hand_rows.Tie as tie
 
 abbrev Inv-loop : tie.InvT-loop
-Inv-loop s entries₀ n i₀ entries i = (i ≤ n) × (length entries ≡ 512) × Rows (stateOf (cells s)) n i entries
+Inv-loop s entries₀ n i₀ entries i = (i ≤ n) × (length entries ≡ 512) × (entries ≡ withRows (λ i. entryOf (stateOf (cells s) i)) n i entries₀)
 
 abbrev μ-loop : tie.MeasureT-loop
 μ-loop s entries₀ n i₀ entries i = n - i
 
 loop-holds : tie.Need-loop-holds Inv-loop μ-loop
-loop-holds c =
-    (omega arith, search needs, rows-begin _ _ _)
+unfolding withRows
+loop-holds c = (omega arith, search needs, refl)
 
 add-i : tie.Need-add-i Inv-loop μ-loop
 add-i c = search needs
@@ -34,7 +35,7 @@ loop-less c = search needs
 loop-again : tie.Need-loop-again Inv-loop μ-loop
 loop-again c =
     let l = c .before .before .before .before .before .loop in
-    (omega arith, search needs, rows-next _ _ _ _ _ (c .before .before .before .before .before .before .before .before .pre .0) (l .inv .2) (c .before .before .hand-row .ensures))
+    (omega arith, search needs, rows-next _ _ _ _ _ _ (l .inv .2) (c .before .before .hand-row .ensures))
 
 same-length : tie.Need-same-length Inv-loop μ-loop
 same-length c = search needs

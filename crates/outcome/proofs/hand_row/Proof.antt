@@ -1,24 +1,25 @@
 -- `hand_row`: one target's entry more at each turn.
 use Prim.Native.Nat.{_+_, _-_, _≤_}
-use mathlib.Core.Path.{_≡_}
+use mathlib.Core.Path.{_≡_, refl}
 use lib.ListN.{length}
 use Rattle.cells.specs.Part.{cells, stateOf}
-use Rattle.house.specs.Handing.{Row}
-use Rattle.house.proofs.Handing.{cells-small, hop-small, row-begins, row-next}
+use Rattle.entries.specs.Read.{entryOf}
+use Rattle.calls.specs.Answers.{withRow}
+use Rattle.outcome.proofs.Handing.{cells-small, hop-small, row-next}
 use borrow.Author.Needs.{needs}
 use native.Mathlib.Omega.{arith}
-use Rattle.house.proofs.hand_row.Statement.{statement}
-use Rattle.house.proofs.hand_row.Tie as tie
+use Rattle.outcome.proofs.hand_row.Statement.{statement}
+use Rattle.outcome.proofs.hand_row.Tie as tie
 
 abbrev Inv-loop : tie.InvT-loop
-Inv-loop s entries₀ n i k₀ entries k = (k ≤ n) × (length entries ≡ 512) × Row entries₀ (stateOf (cells s)) i k entries
+Inv-loop s entries₀ n i k₀ entries k = (k ≤ n) × (length entries ≡ 512) × (entries ≡ withRow (entryOf (stateOf (cells s) i)) i k entries₀)
 
 abbrev μ-loop : tie.MeasureT-loop
 μ-loop s entries₀ n i k₀ entries k = n - k
 
 loop-holds : tie.Need-loop-holds Inv-loop μ-loop
-loop-holds c =
-    (omega arith, search needs, row-begins _ _ _)
+unfolding withRow
+loop-holds c = (omega arith, search needs, refl)
 
 sub-place : tie.Need-sub-place Inv-loop μ-loop
 sub-place c = search needs
@@ -61,7 +62,7 @@ loop-less c = search needs
 loop-again : tie.Need-loop-again Inv-loop μ-loop
 loop-again c =
     let l = c .before .before .before .before .before .before .before .loop in
-    (omega arith, search needs, row-next _ _ _ _ _ _ _ _ _ (l .inv .2) (omega arith) (omega arith) (omega arith) (c .before .before .before .before .distance .ensures) (c .before .before .before .first-hop .ensures) (c .before .before .hand-entry .ensures))
+    (omega arith, search needs, row-next _ _ _ _ _ _ _ _ _ (l .inv .2) (omega arith) (c .before .before .before .before .distance .ensures) (c .before .before .before .first-hop .ensures) (c .before .before .hand-entry .ensures))
 
 same-length : tie.Need-same-length Inv-loop μ-loop
 same-length c = search needs

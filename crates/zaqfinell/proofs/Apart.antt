@@ -1,0 +1,117 @@
+-- Answers can be taken apart: every refusal's number fits a byte, and every value its place.
+-- Assumes nothing.
+use mathlib.Core.Path.{_≡_, sym, ap, subst, _∙_}
+use mathlib.Core.Logic.{_⊎_, inl, inr, _≢_}
+use mathlib.Core.List.{List, [], _∷_}
+use Prim.Native.Nat.{ℕ, zero, suc, _+_, _/_, _%_, _≤_, _<_}
+use native.Mathlib.Omega.{arith}
+use lib.ListN.{length}
+use Rattle.bits.specs.Bits.{bitsOf}
+use Rattle.method.specs.Network.{Arc}
+use Rattle.method.specs.Distance.{FirstHop}
+use Rattle.method.specs.Rules.{Filled}
+use Rattle.method.specs.Steps.{steps}
+use Rattle.method.specs.Entries.{Entry, unknown, unreachable, known}
+use Rattle.method.specs.Marks.{hopOf}
+use Rattle.network.specs.Refusal.{_else_}
+use Rattle.network.specs.Bytes.{nodes, lmax, count, arcs, network}
+use Rattle.network.proofs.Refused.{second}
+use Rattle.table.specs.File.{one, Head}
+use Rattle.table.specs.Reader.{headAt, recordAt}
+use Rattle.table.proofs.Proved.{at-most-27}
+use Rattle.calls.specs.Answers.{values}
+use Rattle.calls.specs.Calls.{entryAfter, entryRefusal, entryAnswer, fileAfter, writeRefusal, writeAnswer}
+use Rattle.zaqfinell.specs.Requirement2.{Says}
+use Rattle.zaqfinell.specs.Apart.{writtenIn, Shows}
+use Rattle.zaqfinell.proofs.Rows.{by-entry, by-write}
+use Rattle.zaqfinell.proofs.Asked.{Asked, asked, answered, wrote}
+use Rattle.zaqfinell.proofs.Requirement2.{requirement2}
+use Rattle.zaqfinell.specs.Rows.{_given_else_, none, arcRows, byteRows, recordRows, fileRows}
+
+-- the rows tell numbers of a byte only
+Small : (ℕ → Type 0) → Type 0
+Small rows = (r : ℕ) → rows r → r < 256
+
+small-none : Small none
+unfolding Small
+small-none r e = omega arith
+
+small-given : (N : ℕ) (Holds : Type 0) (rows : ℕ → Type 0) → N < 256 → Small rows → Small (N given Holds else rows)
+unfolding Small
+small-given N Holds rows lt small r (inl p) = omega (arith, p .1)
+small-given N Holds rows lt small r (inr p) = small r (p .1)
+
+small-arcs : (n lmax : ℕ) (earlier ar : List Arc) (rows : ℕ → Type 0) → Small rows → Small (arcRows n lmax earlier ar rows)
+small-arcs n lmax earlier [] rows small = small
+small-arcs n lmax earlier (a ∷ ar) rows small =
+    small-given 5 _ _ (omega arith) (small-given 6 _ _ (omega arith) (small-given 7 _ _ (omega arith) (small-given 8 _ _ (omega arith)
+    (small-arcs n lmax (a ∷ earlier) ar rows small))))
+
+small-bytes : (s : List ℕ) (rows : ℕ → Type 0) → Small rows → Small (byteRows s rows)
+small-bytes s rows small =
+    small-given 1 _ _ (omega arith) (small-given 2 _ _ (omega arith) (small-given 3 _ _ (omega arith) (small-given 4 _ _ (omega arith) (small-given 1 _ _ (omega arith)
+    (small-arcs (nodes s) (lmax s) [] (arcs s 0 (count s)) _ (small-given 9 _ _ (omega arith) small))))))
+
+small-records : (h : Head) (turns : ℕ) (seen : List Filled) (B : List ℕ) (p : ℕ) (rows : ℕ → Type 0) → Small rows → Small (recordRows h turns seen B p rows)
+unfolding Small
+small-records h zero seen B p rows small r x = small r x
+small-records h (suc turns) seen B p rows small r (inl x) =
+    small-given 17 _ _ (omega arith) (small-records h turns (recordAt one seen B p ∷ seen) B (p + 13) rows small) r (x .1)
+small-records h (suc turns) seen B p rows small r (inr x) = small-given 18 _ _ (omega arith) small r (x .1)
+
+small-file : (s : List ℕ) (rows : ℕ → Type 0) → Small rows → Small (fileRows s rows)
+small-file s rows small =
+    small-given 14 _ _ (omega arith) (small-given 15 _ _ (omega arith) (small-given 16 _ _ (omega arith)
+    (small-records (headAt one (bitsOf s)) (length (bitsOf s)) [] (bitsOf s) 16 rows small)))
+
+small-entry : (net bs : List ℕ) (i y : ℕ) → entryRefusal net bs i y < 256
+unfolding Small
+small-entry net bs i y = small-bytes net _ (small-given 11 _ _ (omega arith) (small-given 10 _ _ (omega arith) small-none)) _ (by-entry net bs i y .told)
+
+small-write : (net bs : List ℕ) (i wide : ℕ) → writeRefusal net bs i wide < 256
+unfolding Small
+small-write net bs i wide =
+    small-bytes net _ (small-given 11 _ _ (omega arith) (small-given 10 _ _ (omega arith) (small-given 12 _ _ (omega arith) (small-given 13 _ _ (omega arith) small-none))))
+    _ (by-write net bs i wide .told)
+
+-- an answer's low byte
+low : (r a b : ℕ) → r < 256 → (r else values a b) % 256 ≡ r
+low zero a b lt = omega arith
+low (suc r) a b lt = omega arith
+
+-- and the values above it
+second-byte : (a b : ℕ) → a < 256 → values a b / 256 % 256 ≡ a
+second-byte a b lt = omega arith
+
+upper-half : (a b : ℕ) → a < 256 → values a b / 65536 ≡ b
+upper-half a b lt = omega arith
+
+-- a first hop is a node, 0, or 255 beside a mark
+hop-low : (net bs : List ℕ) (i y : ℕ) → entryRefusal net bs i y ≡ 0 → hopOf (entryAfter net bs i y) < 256
+hop-low net bs i y e = go (entryAfter net bs i y) (requirement2 .right net bs i y e)
+  where
+    a : Asked net i y
+    a = asked net bs i y e
+
+    by-hop : (d h : ℕ) → ((y ≡ i) × (h ≡ 0)) ⊎ ((y ≢ i) × FirstHop (network net) i y d h) → h < 256
+    by-hop d h (inl p) = omega (arith, p .1)
+    by-hop d h (inr p) = omega (arith, a .accepted .valid .heads i h _ (p .1 .starts .arc), a .accepted .sizes .nodes)
+
+    go : (x : Entry) → Says (network net) i y x → hopOf x < 256
+    go unknown says = omega arith
+    go unreachable says = omega arith
+    go (known d h) says = by-hop d h (says .hop)
+
+entry-shows : (net bs : List ℕ) (i y : ℕ) → entryRefusal net bs i y ≡ 0 → Shows (entryAnswer net bs i y) (entryAfter net bs i y)
+entry-shows net bs i y e =
+    subst (λ (r : ℕ). Shows r (entryAfter net bs i y)) (sym (answered net bs i y (asked net bs i y e)))
+    (record { hop = second-byte _ _ (hop-low net bs i y e); distance = upper-half _ _ (hop-low net bs i y e) })
+
+write-shows : (net bs : List ℕ) (i : ℕ) (room : List ℕ) → writeRefusal net bs i (length room) ≡ 0 → writtenIn (writeAnswer net bs i room) ≡ length (fileAfter net bs i)
+write-shows net bs i room e =
+    let w = wrote net bs i (length room) e in
+    let few = at-most-27 (network net) (w .accepted) (steps bs) i (w .started) in
+    ap writtenIn (second (writeRefusal net bs i (length room)) (values (length (fileAfter net bs i)) 0) e) ∙ written (length (fileAfter net bs i)) (omega arith)
+  where
+    written : (k : ℕ) → k ≤ 27 → writtenIn (values k 0) ≡ k
+    written k le = omega arith

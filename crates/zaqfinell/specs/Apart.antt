@@ -1,0 +1,47 @@
+-- How a C program takes an answer apart: these are `zaq_refusal`, `zaq_hop`, `zaq_distance` and `zaq_written` of the header, and what they
+-- give of each call's answer.
+-- Assumes nothing.
+use mathlib.Core.Path.{_≡_}
+use mathlib.Core.List.{List}
+use Prim.Native.Nat.{ℕ, _/_, _%_}
+use lib.ListN.{length}
+use Rattle.method.specs.Entries.{Entry}
+use Rattle.method.specs.Marks.{distanceOf, hopOf}
+use Rattle.table.specs.File.{one}
+use Rattle.table.specs.Reader.{says, entryRead}
+use Rattle.calls.specs.Answers.{readAnswer}
+use Rattle.calls.specs.Calls.{entryAfter, entryRefusal, entryAnswer, nodesPassed, routeAnswer, fileAfter, writeRefusal, writeAnswer}
+use Rattle.zaqfinell.specs.Requirement1.{readRefusal}
+
+-- bits 0 to 7
+abbrev pub refusalIn : ℕ → ℕ
+refusalIn answer = answer % 256
+
+-- bits 8 to 15
+abbrev pub hopIn : ℕ → ℕ
+hopIn answer = answer / 256 % 256
+
+-- bits 16 to 31
+abbrev pub distanceIn : ℕ → ℕ
+distanceIn answer = answer / 65536
+
+-- bits 8 to 23
+abbrev pub writtenIn : ℕ → ℕ
+writtenIn answer = answer / 256 % 65536
+
+-- an answer that refuses nothing and says this entry
+pub record Shows (answer : ℕ) (e : Entry) : Type 0 where
+  pub hop : hopIn answer ≡ hopOf e
+  pub distance : distanceIn answer ≡ distanceOf e
+
+pub record Apart : Type 0 where
+  pub entry-refusal : (net bs : List ℕ) (i y : ℕ) → refusalIn (entryAnswer net bs i y) ≡ entryRefusal net bs i y
+  pub entry-shows : (net bs : List ℕ) (i y : ℕ) → entryRefusal net bs i y ≡ 0 → Shows (entryAnswer net bs i y) (entryAfter net bs i y)
+  pub route-refusal : (net bs : List ℕ) (i y : ℕ) → refusalIn (routeAnswer net bs i y) ≡ entryRefusal net bs i y
+  pub route-shows : (net bs : List ℕ) (i y : ℕ) → entryRefusal net bs i y ≡ 0
+      → (hopIn (routeAnswer net bs i y) ≡ length (nodesPassed net bs i y)) × (distanceIn (routeAnswer net bs i y) ≡ distanceOf (entryAfter net bs i y))
+  pub write-refusal : (net bs : List ℕ) (i : ℕ) (room : List ℕ) → refusalIn (writeAnswer net bs i room) ≡ writeRefusal net bs i (length room)
+  pub write-shows : (net bs : List ℕ) (i : ℕ) (room : List ℕ) → writeRefusal net bs i (length room) ≡ 0
+      → writtenIn (writeAnswer net bs i room) ≡ length (fileAfter net bs i)
+  pub read-refusal : (file : List ℕ) (y : ℕ) → refusalIn (readAnswer (entryRead one file y)) ≡ readRefusal (entryRead one file y)
+  pub read-shows : (file : List ℕ) (y : ℕ) (e : Entry) → entryRead one file y ≡ says e → Shows (readAnswer (entryRead one file y)) e
