@@ -1,6 +1,6 @@
 -- Answers can be taken apart: every refusal's number fits a byte, and every value its place.
 -- Assumes nothing.
-use mathlib.Core.Path.{_≡_, sym, ap, subst, _∙_}
+use mathlib.Core.Path.{_≡_, refl, sym, ap, subst, _∙_}
 use mathlib.Core.Logic.{_⊎_, inl, inr, _≢_}
 use mathlib.Core.List.{List, [], _∷_}
 use Prim.Native.Nat.{ℕ, zero, suc, _+_, _/_, _%_, _≤_, _<_}
@@ -12,17 +12,19 @@ use Rattle.method.specs.Distance.{FirstHop}
 use Rattle.method.specs.Rules.{Filled}
 use Rattle.method.specs.Steps.{steps}
 use Rattle.method.specs.Entries.{Entry, unknown, unreachable, known}
-use Rattle.method.specs.Marks.{hopOf}
+use Rattle.method.specs.Marks.{distanceOf, hopOf}
 use Rattle.network.specs.Refusal.{_else_}
 use Rattle.network.specs.Bytes.{nodes, lmax, count, arcs, network}
 use Rattle.network.proofs.Refused.{second}
 use Rattle.table.specs.File.{one, Head}
 use Rattle.table.specs.Reader.{headAt, recordAt}
 use Rattle.table.proofs.Proved.{at-most-27}
+use Rattle.route.specs.Route.{route}
+use Rattle.route.proofs.Laws.{laws as route-laws}
 use Rattle.calls.specs.Answers.{values}
-use Rattle.calls.specs.Calls.{entryAfter, entryRefusal, entryAnswer, fileAfter, writeRefusal, writeAnswer}
+use Rattle.calls.specs.Calls.{stateAfter, entryAfter, entryRefusal, entryAnswer, passed, nodesPassed, routeAnswer, fileAfter, writeRefusal, writeAnswer}
 use Rattle.zaqfinell.specs.Requirement2.{Says}
-use Rattle.zaqfinell.specs.Apart.{writtenIn, Shows}
+use Rattle.zaqfinell.specs.Apart.{hopIn, distanceIn, writtenIn, Shows}
 use Rattle.zaqfinell.proofs.Rows.{by-entry, by-write}
 use Rattle.zaqfinell.proofs.Asked.{Asked, asked, answered, wrote}
 use Rattle.zaqfinell.proofs.Requirement2.{requirement2}
@@ -115,3 +117,21 @@ write-shows net bs i room e =
   where
     written : (k : ℕ) → k ≤ 27 → writtenIn (values k 0) ≡ k
     written k le = omega arith
+
+-- a route has fewer nodes than the house
+few-passed : (net bs : List ℕ) (i y : ℕ) → entryRefusal net bs i y ≡ 0 → length (nodesPassed net bs i y) < 256
+few-passed net bs i y e = go (entryAfter net bs i y) refl
+  where
+    a : Asked net i y
+    a = asked net bs i y e
+
+    go : (x : Entry) → entryAfter net bs i y ≡ x → length (passed x (route (stateAfter net bs) y i)) < 256
+    go unknown is = omega arith
+    go unreachable is = omega arith
+    go (known d h) is = omega (arith, route-laws (network net) .arrives (a .accepted) (steps bs) i y d h (a .node) is .few, a .accepted .sizes .nodes)
+
+route-shows : (net bs : List ℕ) (i y : ℕ) → entryRefusal net bs i y ≡ 0
+    → (hopIn (routeAnswer net bs i y) ≡ length (nodesPassed net bs i y)) × (distanceIn (routeAnswer net bs i y) ≡ distanceOf (entryAfter net bs i y))
+route-shows net bs i y e =
+    let is = second (entryRefusal net bs i y) (values (length (nodesPassed net bs i y)) (distanceOf (entryAfter net bs i y))) e in
+    (ap hopIn is ∙ second-byte _ _ (few-passed net bs i y e), ap distanceIn is ∙ upper-half _ _ (few-passed net bs i y e))
