@@ -1,5 +1,6 @@
-# Two commands: `make demo` shows the library at work, `make test` is the whole gate. `make bench` times it against plain C.
-.PHONY: demo test bench clean
+# Two commands: `make demo` shows the library at work, `make test` is the whole gate. `make bench` times it against plain C,
+# `make pictures` draws the sample house, `make check-long` has other people's programs look at the method and at the library's answers.
+.PHONY: demo test bench pictures check-long clean
 
 demo:
 	@echo "Proving the library (some minutes the first time) .."
@@ -15,6 +16,12 @@ test:
 
 bench:
 	bash bench/run.sh
+
+pictures:
+	bash tools/pictures.sh
+
+check-long:
+	bash tests/long/run.sh
 
 clean:
 	rm -rf target

@@ -7,11 +7,6 @@ independent=target/outside/outside
 mkdir -p target/house_table
 input=target/house_table/input
 
-bytes() { # bytes DIGITS: two hexadecimal digits to a byte
-    local digits=$1 k
-    for ((k = 0; k < ${#digits}; k += 2)); do printf "\\x${digits:k:2}"; done
-}
-
 same() { # same TEXT: the program and the independent one print the same for the input
     verdict "$1" cmp -s <("$program" < "$input") <("$independent" print < "$input")
 }

@@ -1,4 +1,4 @@
-# Sourced by the tests that are scripts: goes to the repository's root and counts.
+# Sourced by the tests that are scripts: goes to the repository's root, counts, and makes bytes.
 set -u
 cd "$(dirname "${BASH_SOURCE[0]}")/.." || exit 1
 passed=0
@@ -13,6 +13,11 @@ verdict() { # verdict TEXT TEST..: one check, told where it fails
         failed=$((failed + 1))
         echo "$0: $text"
     fi
+}
+
+bytes() { # bytes DIGITS: two hexadecimal digits to a byte
+    local digits=$1 k
+    for ((k = 0; k < ${#digits}; k += 2)); do printf "\\x${digits:k:2}"; done
 }
 
 closing_line() {

@@ -4,6 +4,7 @@
 #   sample_house.sh network   the network's bytes alone
 #   sample_house.sh steps     the step bytes alone
 #   sample_house.sh list      the house in words
+#   sample_house.sh names     a line with the name of each node
 set -eu
 
 lmax=9
@@ -62,8 +63,9 @@ all) bytes "$(network_digits)$(steps_digits)" ;;
 network) bytes "$(network_digits)" ;;
 steps) bytes "$(steps_digits)" ;;
 list) list ;;
+names) printf '%s\n' "${nodes[@]}" ;;
 *)
-    echo "usage: $0 [network|steps|list]" >&2
+    echo "usage: $0 [network|steps|list|names]" >&2
     exit 2
     ;;
 esac

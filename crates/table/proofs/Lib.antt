@@ -15,4 +15,4 @@ pub mod Pended
 pub mod Writing
 pub mod Listed
 pub mod AllRead
-pub mod Examples
+pub mod Small

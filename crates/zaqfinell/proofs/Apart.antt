@@ -17,15 +17,18 @@ use Rattle.network.specs.Refusal.{_else_}
 use Rattle.network.specs.Bytes.{nodes, lmax, count, arcs, network}
 use Rattle.network.proofs.Refused.{second}
 use Rattle.table.specs.File.{one, Head}
-use Rattle.table.specs.Reader.{headAt, recordAt}
+use Rattle.table.specs.Reader.{headAt, recordAt, Read, refusal, says, entryRead}
+use Rattle.table.proofs.Small.{hop-small}
 use Rattle.table.proofs.Proved.{at-most-27}
 use Rattle.route.specs.Route.{route}
 use Rattle.route.proofs.Laws.{laws as route-laws}
-use Rattle.calls.specs.Answers.{values}
+use Rattle.calls.specs.Answers.{values, readAnswer}
 use Rattle.calls.specs.Calls.{stateAfter, entryAfter, entryRefusal, entryAnswer, passed, nodesPassed, routeAnswer, fileAfter, writeRefusal, writeAnswer}
 use Rattle.zaqfinell.specs.Requirement2.{Says}
-use Rattle.zaqfinell.specs.Apart.{hopIn, distanceIn, writtenIn, Shows}
+use Rattle.zaqfinell.specs.Apart.{refusalIn, hopIn, distanceIn, writtenIn, Shows, Apart}
 use Rattle.zaqfinell.proofs.Rows.{by-entry, by-write}
+use Rattle.zaqfinell.specs.Requirement1.{readRefusal}
+use Rattle.zaqfinell.proofs.FileRows.{by-read}
 use Rattle.zaqfinell.proofs.Asked.{Asked, asked, answered, wrote}
 use Rattle.zaqfinell.proofs.Requirement2.{requirement2}
 use Rattle.zaqfinell.specs.Rows.{_given_else_, none, arcRows, byteRows, recordRows, fileRows}
@@ -100,9 +103,9 @@ hop-low net bs i y e = go (entryAfter net bs i y) (requirement2 .right net bs i 
     by-hop d h (inr p) = omega (arith, a .accepted .valid .heads i h _ (p .1 .starts .arc), a .accepted .sizes .nodes)
 
     go : (x : Entry) → Says (network net) i y x → hopOf x < 256
-    go unknown says = omega arith
-    go unreachable says = omega arith
-    go (known d h) says = by-hop d h (says .hop)
+    go unknown so = omega arith
+    go unreachable so = omega arith
+    go (known d h) so = by-hop d h (so .hop)
 
 entry-shows : (net bs : List ℕ) (i y : ℕ) → entryRefusal net bs i y ≡ 0 → Shows (entryAnswer net bs i y) (entryAfter net bs i y)
 entry-shows net bs i y e =
@@ -135,3 +138,33 @@ route-shows : (net bs : List ℕ) (i y : ℕ) → entryRefusal net bs i y ≡ 0
 route-shows net bs i y e =
     let is = second (entryRefusal net bs i y) (values (length (nodesPassed net bs i y)) (distanceOf (entryAfter net bs i y))) e in
     (ap hopIn is ∙ second-byte _ _ (few-passed net bs i y e), ap distanceIn is ∙ upper-half _ _ (few-passed net bs i y e))
+
+-- what is read from any bytes
+small-read : (s : List ℕ) (y : ℕ) → readRefusal (entryRead one s y) < 256
+unfolding Small
+small-read s y = small-file s _ (small-given 11 _ _ (omega arith) small-none) _ (by-read s y .told)
+
+read-refusal : (s : List ℕ) (y : ℕ) → refusalIn (readAnswer (entryRead one s y)) ≡ readRefusal (entryRead one s y)
+read-refusal s y = go (entryRead one s y) (small-read s y)
+  where
+    go : (x : Read) → readRefusal x < 256 → refusalIn (readAnswer x) ≡ readRefusal x
+    go (refusal r) lt = omega arith
+    go (says e) lt = low 0 (hopOf e) (distanceOf e) (omega arith)
+
+read-shows : (s : List ℕ) (y : ℕ) (e : Entry) → entryRead one s y ≡ says e → Shows (readAnswer (entryRead one s y)) e
+read-shows s y e is =
+    let small = hop-small s y e is in
+    subst (λ (x : Read). Shows (readAnswer x) e) (sym is) (record { hop = second-byte _ _ small; distance = upper-half _ _ small })
+
+pub apart : Apart
+apart =
+    record {
+      entry-refusal = λ net bs i y. low (entryRefusal net bs i y) _ _ (small-entry net bs i y);
+      entry-shows = entry-shows;
+      route-refusal = λ net bs i y. low (entryRefusal net bs i y) _ _ (small-entry net bs i y);
+      route-shows = route-shows;
+      write-refusal = λ net bs i room. low (writeRefusal net bs i (length room)) _ 0 (small-write net bs i (length room));
+      write-shows = write-shows;
+      read-refusal = read-refusal;
+      read-shows = read-shows;
+    }

@@ -6,3 +6,5 @@ pub mod Requirement2
 pub mod Requirement3
 pub mod Unique
 pub mod Apart
+pub mod Left
+pub mod Examples

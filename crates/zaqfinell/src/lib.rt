@@ -1,5 +1,5 @@
 // The calls that the firmware links: numbers and byte buffers in, one number out. What each promises is in specs/Promises.
-ghost use Rattle.zaqfinell.specs.Promises.{CheckPromise, RunPromise, EntryPromise, RoutePromise, HousePromise};
+ghost use Rattle.zaqfinell.specs.Promises.{CheckPromise, WritePromise, ReadPromise, TablePromise, RunPromise, EntryPromise, RoutePromise, HousePromise};
 
 // The refusal of a network's bytes, or 0.
 #[no_mangle]
@@ -7,6 +7,30 @@ pub extern "C" fn zaq_check_network(net: &[u8]) -> u32
     ensures { λ r. ⌜ CheckPromise (now (net .entry)) r ⌝ }
 {
     network::check(net)
+}
+
+// Runs the steps over a network and writes one node's file into the room; how many bytes it has.
+#[no_mangle]
+pub extern "C" fn zaq_write_table(net: &[u8], steps: &[u8], node: u32, room: &mut [u8]) -> u32
+    ensures { λ r. ⌜ WritePromise (now (net .entry)) (now (steps .entry)) node (now (room .entry)) r (now (room .exit)) ⌝ }
+{
+    file::write_table(net, steps, node, room)
+}
+
+// One entry of a table file, whole or cut.
+#[no_mangle]
+pub extern "C" fn zaq_read_entry(file: &[u8], target: u32) -> u32
+    ensures { λ r. ⌜ ReadPromise (now (file .entry)) target r ⌝ }
+{
+    file::read_entry(file, target)
+}
+
+// All entries of a table file, whole or cut.
+#[no_mangle]
+pub extern "C" fn zaq_read_table(file: &[u8], room: &mut [u16]) -> u32
+    ensures { λ r. ⌜ TablePromise (now (file .entry)) (now (room .entry)) r (now (room .exit)) ⌝ }
+{
+    file::read_table(file, room)
 }
 
 // The whole outcome of a run: the refusal, or 0 with the counts and every entry.

@@ -1,0 +1,157 @@
+-- `put_file`: the entries behind the first, lent in place.
+use Prim.Native.Nat.{_+_, _*_}
+use Rattle.file.proofs.Held.{fifteen, lent-file, same-written}
+use native.Mathlib.Omega.{arith}
+use borrow.Author.Needs.{needs}
+use Rattle.file.proofs.put_file.Statement.{statement}
+use Rattle.file.proofs.put_file.Tie as tie
+
+get-requires : tie.Need-get-requires
+get-requires c κs = search needs
+
+sub-records : tie.Need-sub-records
+sub-records c = search needs
+
+has-stopped-requires : tie.Need-has-stopped-requires
+has-stopped-requires c κs = search needs
+
+mul-first : tie.Need-mul-first
+mul-first c = search needs
+
+add-first : tie.Need-add-first
+add-first c = search needs
+
+add-targets : tie.Need-add-targets
+add-targets c = search needs
+
+add-targets-2 : tie.Need-add-targets-2
+add-targets-2 c = search needs
+
+add-targets-3 : tie.Need-add-targets-3
+add-targets-3 c = search needs
+
+mul-targets : tie.Need-mul-targets
+mul-targets c = search needs
+
+sub-targets : tie.Need-sub-targets
+sub-targets c = search needs
+
+part-targets-start : tie.Need-part-targets-start
+part-targets-start c = search needs
+
+part-targets-end : tie.Need-part-targets-end
+part-targets-end c = search needs
+
+add-distances : tie.Need-add-distances
+add-distances c = search needs
+
+add-distances-2 : tie.Need-add-distances-2
+add-distances-2 c = search needs
+
+add-distances-3 : tie.Need-add-distances-3
+add-distances-3 c = search needs
+
+mul-distances : tie.Need-mul-distances
+mul-distances c = search needs
+
+sub-distances : tie.Need-sub-distances
+sub-distances c = search needs
+
+part-distances-start : tie.Need-part-distances-start
+part-distances-start c = search needs
+
+part-distances-end : tie.Need-part-distances-end
+part-distances-end c = search needs
+
+add-hops : tie.Need-add-hops
+add-hops c = search needs
+
+add-hops-2 : tie.Need-add-hops-2
+add-hops-2 c = search needs
+
+add-hops-3 : tie.Need-add-hops-3
+add-hops-3 c = search needs
+
+mul-hops : tie.Need-mul-hops
+mul-hops c = search needs
+
+sub-hops : tie.Need-sub-hops
+sub-hops c = search needs
+
+part-hops-start : tie.Need-part-hops-start
+part-hops-start c = search needs
+
+part-hops-end : tie.Need-part-hops-end
+part-hops-end c = search needs
+
+cast-write-file : tie.Need-cast-write-file
+cast-write-file c = search needs
+
+shared-slice-read-write-file : tie.Need-shared-slice-read-write-file
+shared-slice-read-write-file c = search needs
+
+cast-write-file-2 : tie.Need-cast-write-file-2
+cast-write-file-2 c = search needs
+
+shared-slice-read-write-file-2 : tie.Need-shared-slice-read-write-file-2
+shared-slice-read-write-file-2 c = search needs
+
+cast-write-file-3 : tie.Need-cast-write-file-3
+cast-write-file-3 c = search needs
+
+cast-write-file-4 : tie.Need-cast-write-file-4
+cast-write-file-4 c = search needs
+
+write-file-requires : tie.Need-write-file-requires
+write-file-requires c κs = search needs
+
+same-length : tie.Need-same-length
+same-length c = search needs
+
+returns : tie.Need-returns
+returns c =
+    let a = c .before .before .before .before .before .before .before .before .before .before .before .before .before .before .args in
+    let p = c .before .before .before .before .before .before .before .before .before .before .before .before .before .before .pre in
+    let get = c .before .before .before .before .before .before .before .before .before .before .get in
+    let is = lent-file (a .s .now) (a .i) (omega (arith, p .1, p .0 .accepted .sizes .nodes)) (p .4) (a .net .now) _ _ _ (fifteen (a .i * 379 + 1 + 74)) (fifteen (a .i * 379 + 1 + 90)) (fifteen (a .i * 379 + 1 + 106)) (get .result) (get .ensures .0) (omega (arith, get .ensures .0, p .3)) _ (c .before .before .before .before .before .before .before .before .before .has-stopped .ensures) in
+    same-written _ _ (a .room .now) _ _ is (c .before .before .write-file .ensures)
+
+pub put-file-spec : {M : Type 1} → statement M
+put-file-spec =
+    tie.close
+    (tie.spec
+    get-requires
+    sub-records
+    has-stopped-requires
+    mul-first
+    add-first
+    add-targets
+    add-targets-2
+    add-targets-3
+    mul-targets
+    sub-targets
+    part-targets-start
+    part-targets-end
+    add-distances
+    add-distances-2
+    add-distances-3
+    mul-distances
+    sub-distances
+    part-distances-start
+    part-distances-end
+    add-hops
+    add-hops-2
+    add-hops-3
+    mul-hops
+    sub-hops
+    part-hops-start
+    part-hops-end
+    cast-write-file
+    shared-slice-read-write-file
+    cast-write-file-2
+    shared-slice-read-write-file-2
+    cast-write-file-3
+    cast-write-file-4
+    write-file-requires
+    same-length
+    returns)

@@ -1,0 +1,27 @@
+#!/usr/bin/env bash
+# Builds the tools that are C programs into target/tools, linked with the library: build.sh [TOOL..]
+# ZAQ_LIBRARY names a static library to link instead of the one that is proved and built here.
+set -eu
+cd "$(dirname "$0")/.."
+library=${ZAQ_LIBRARY:-target/staticlib/libzaqfinell.a}
+if [ -z "${ZAQ_LIBRARY:-}" ]; then
+    log=$(rt staticlib zaqfinell 2>&1) || { echo "$log" >&2 && exit 1; }
+fi
+mkdir -p target/tools
+
+build() { # build NAME SOURCE..
+    local name=$1
+    shift
+    "${CC:-cc}" -std=c99 -Wall -Wextra -Werror -O2 -Iinclude "$@" "$library" -lm -o "target/tools/$name"
+}
+
+for tool in "${@:-draw_house}"; do
+    case $tool in
+    draw_house) build draw_house tools/draw_house/*.c ;;
+    node_file) build node_file tools/node_file.c ;;
+    *)
+        echo "usage: $0 [draw_house|node_file ..]" >&2
+        exit 2
+        ;;
+    esac
+done
