@@ -1,73 +1,65 @@
-/* Times zaq_check_network against a plain C check of the same rules (marks, half bytes), at 240 arcs and at none refused. */
+/* The check of a network's bytes, by the library and by plain C. */
 #include "bench.h"
-#include "../include/zaqfinell.h"
+#include "houses.h"
+#include "plain.h"
 #include <string.h>
 
-static unsigned half(const uint8_t *s, unsigned k)
-{
-    return s[k / 2] >> (4 - 4 * (k % 2)) & 15;
-}
+enum { HOUSES = 8, TRIALS = 20000 };
 
-__attribute__((noinline)) static uint32_t plain_check(const uint8_t *s, size_t len)
-{
-    uint8_t seen[256];
-    if (len < 3)
-        return 1;
-    if (half(s, 0) != 1 || half(s, 3) != 0)
-        return 2;
-    unsigned n = half(s, 1) + 1, lmax = half(s, 2), arcs = s[2];
-    if (lmax == 0)
-        return 3;
-    if (arcs > 240)
-        return 4;
-    if (len != 3 + (12 * arcs + 7) / 8)
-        return 1;
-    memset(seen, 0, sizeof seen);
-    for (unsigned k = 0; k < arcs; k++) {
-        unsigned tail = half(s, 6 + 3 * k) + 1, head = half(s, 7 + 3 * k) + 1, length = half(s, 8 + 3 * k);
-        if (tail > n || head > n)
-            return 5;
-        if (tail == head)
-            return 6;
-        if (length == 0 || length > lmax)
-            return 7;
-        uint8_t *mark = &seen[16 * (tail - 1) + head - 1];
-        if (*mark)
-            return 8;
-        *mark = 1;
-    }
-    if (arcs % 2 && half(s, 6 + 3 * arcs))
-        return 9;
-    return 0;
-}
-
-static uint8_t net[363];
+static struct house houses[HOUSES];
 static volatile uint32_t sink;
 
-static void run_plain(void)
+static void by_library(void)
 {
-    sink = plain_check(net, sizeof net);
+    for (int k = 0; k < HOUSES; k++)
+        sink = zaq_check_network(houses[k].net, houses[k].net_len);
 }
 
-static void run_library(void)
+static void by_plain_O2(void)
 {
-    sink = zaq_check_network(net, sizeof net);
+    for (int k = 0; k < HOUSES; k++)
+        sink = plain_check_O2(houses[k].net, houses[k].net_len);
+}
+
+static void by_plain_O3(void)
+{
+    for (int k = 0; k < HOUSES; k++)
+        sink = plain_check_O3(houses[k].net, houses[k].net_len);
+}
+
+/* A wrong rival is none: accepted networks, and networks with other bits and lengths, most of which are refused. */
+static void check_rivals(void)
+{
+    for (int k = 0; k < TRIALS; k++) {
+        struct house h = houses[k % HOUSES];
+        for (unsigned flips = k < HOUSES ? 0 : random_below(4); flips > 0; flips--)
+            h.net[random_below(random_below(2) ? 3 : (uint32_t)h.net_len)] ^= (uint8_t)(1 << random_below(8));
+        size_t len = k < HOUSES || random_below(4) ? h.net_len : random_below(NET_ROOM + 1);
+        uint32_t want = expected_refusal(h.net, len);
+        if (zaq_check_network(h.net, len) != want || plain_check_O2(h.net, len) != want || plain_check_O3(h.net, len) != want) {
+            printf("a network of %zu bytes: refusal %u is wanted\n", len, (unsigned)want);
+            exit(1);
+        }
+    }
+}
+
+static void one_case(const char *name, unsigned arcs)
+{
+    const work rivals[] = {by_library, by_plain_O2, by_plain_O3};
+    for (int k = 0; k < HOUSES; k++)
+        build_net(&houses[k], arcs, 15);
+    check_rivals();
+    struct timing t = compare(rivals, 3);
+    print_row(name, t.least[LIBRARY] / HOUSES, t, 1.2);
+    printf("\n");
+    for (int k = 0; k < HOUSES; k++)
+        free(houses[k].steps);
 }
 
 int main(void)
 {
-    unsigned k = 0;
-    memcpy(net, (const uint8_t[]){0x1F, 0xF0, 240}, 3);
-    for (unsigned step = 1; step < 16; step++) /* every pair of nodes, the tails changing at each arc */
-        for (unsigned tail = 0; tail < 16; tail++, k++) {
-            unsigned digits[3] = {tail, (tail + step) % 16, 1 + (tail * step) % 15};
-            for (unsigned d = 0; d < 3; d++)
-                net[3 + (3 * k + d) / 2] |= (uint8_t)(digits[d] << ((3 * k + d) % 2 ? 0 : 4));
-        }
-    if (plain_check(net, sizeof net) != 0 || zaq_check_network(net, sizeof net) != 0) {
-        puts("the network of the benchmark is refused");
-        return 1;
-    }
-    compare("check of 240 arcs", run_library, run_plain, 2000);
+    begin_table("check of a network", "ns", 1.2);
+    one_case("240 arcs", 240);
+    one_case("47 arcs", 47);
     return 0;
 }

@@ -1,11 +1,28 @@
 #!/usr/bin/env bash
-# Builds the static library and every benchmark of this folder, and runs them one after the other.
+# Builds the static library and every benchmark of this folder, and runs them one after the other: one table.
+# usage: run.sh    LIBRARY=file.a: measures that library instead of building one
 set -eu
 cd "$(dirname "$0")/.."
-rt staticlib zaqfinell
-mkdir -p target/bench
-for source in bench/*.c; do
-    program=target/bench/$(basename "$source" .c)
-    ${CC:-cc} -std=c99 -Wall -Wextra -Werror -O2 -pthread "$source" target/staticlib/libzaqfinell.a -o "$program"
-    "$program"
+library=${LIBRARY:-target/staticlib/libzaqfinell.a}
+[ -n "${LIBRARY:-}" ] || rt staticlib zaqfinell > /dev/null
+out=target/bench
+mkdir -p "$out"
+compile="${CC:-cc} -std=c99 -Wall -Wextra -Werror"
+
+# the competitor at both levels, the houses, and the outside tests' simulation, which says what is right
+parts=("$out/houses.o" "$out/reference.o")
+for source in plain_run plain_read plain_shortest; do
+    for level in O2 O3; do
+        $compile "-$level" -DLEVEL="$level" -c "bench/$source.c" -o "$out/${source}_$level.o"
+        parts+=("$out/${source}_$level.o")
+    done
+done
+$compile -O2 -c bench/houses.c -o "$out/houses.o"
+$compile -O2 -c tests/outside/reference.c -o "$out/reference.o"
+
+echo "the library against plain C, $(${CC:-cc} --version | head -n 1); load when it began: $(cut -d ' ' -f 1 /proc/loadavg)"
+echo "a ratio is the middle of 101 rounds, the middle half of them in brackets"
+for program in check run write read stack; do
+    $compile -O2 -pthread "bench/$program.c" "${parts[@]}" "$library" -o "$out/$program"
+    "$out/$program"
 done

@@ -1,0 +1,22 @@
+/* The plain C that the library is measured against: document 01's rules written for speed, with the header's calls and answers. It is
+ * compiled twice, at -O2 and at -O3; LEVEL is the end of each function's name. */
+#ifndef PLAIN_H
+#define PLAIN_H
+#include "../include/zaqfinell.h"
+
+#define PLAIN_CALLS(level)                                                                                                                 \
+    uint32_t plain_check_##level(const uint8_t *net, size_t net_len);                                                                      \
+    uint32_t plain_run_##level(                                                                                                            \
+        const uint8_t *net, size_t net_len, const uint8_t *steps, size_t steps_len, uint64_t counts[4], uint16_t entries[16][16][2]);      \
+    uint32_t plain_write_##level(                                                                                                          \
+        const uint8_t *net, size_t net_len, const uint8_t *steps, size_t steps_len, uint32_t node, uint8_t *room, size_t room_len);        \
+    uint32_t plain_read_##level(const uint8_t *file, size_t file_len, uint32_t target);                                                    \
+    uint32_t plain_shortest_##level(const uint8_t *net, size_t net_len, uint16_t entries[16][16][2]);
+
+PLAIN_CALLS(O2)
+PLAIN_CALLS(O3)
+
+#define JOINED(name, level) plain_##name##_##level
+#define JOIN(name, level) JOINED(name, level)
+#define PLAIN(name) JOIN(name, LEVEL)
+#endif
