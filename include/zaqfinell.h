@@ -1,7 +1,8 @@
 /* Zaqfinell: routing for houses of up to sixteen devices.
  *
  * Link with libzaqfinell.a. No call keeps anything, allocates anything, or needs to be set up: each takes numbers and buffers and gives
- * one number. A call may be made with any input. What is wrong is refused with its number, and then nothing is written.
+ * one number. A call may be made with any input. What is wrong is refused with its number, and then nothing is written. Buffers do not
+ * overlap; one of length 0 may be NULL.
  *
  * Every answer (but that of zaq_house_table, a length) has the refusal's number in its low byte, 0 for none, and its values above it,
  * all 0 on a refusal. zaq_refusal, zaq_written, zaq_hop and zaq_distance take an answer apart.

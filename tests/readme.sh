@@ -9,6 +9,6 @@ verdict 'it has a C program' test -s target/readme/program.c
 verdict 'the static library is built' rt staticlib zaqfinell > /dev/null
 verdict 'its program compiles' \
     "${CC:-cc}" -std=c99 -Wall -Wextra -Werror -Iinclude target/readme/program.c target/staticlib/libzaqfinell.a -o target/readme/program
-verdict 'its program says that the house is accepted' test "$(target/readme/program)" = accepted
+verdict 'its program says the distance of 01 for that house' test "$(target/readme/program)" = 'distance 1 by 2'
 
 closing_line

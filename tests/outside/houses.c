@@ -5,7 +5,7 @@
 #include <stdio.h>
 #include <string.h>
 
-enum { ROOM = 8192, MOST_STEPS = 20000 };
+enum { ROOM = ZAQ_HOUSE_TABLE_ROOM };
 
 static uint8_t input[MOST_NETWORK + MOST_STEPS], room[ROOM + 16];
 static char text[ROOM];
@@ -56,26 +56,6 @@ static void entries_are_true(const struct ref_truth *truth)
     check(right, "entries are the distances and first hops over all chains");
 }
 
-/* A step list in one of many orders. */
-static uint8_t next_step(unsigned kind, unsigned k)
-{
-    unsigned arcs = net.arcs ? net.arcs : 1;
-    switch (kind) {
-    case 0: /* all start, then round after round */
-        return (uint8_t)(k < net.n ? k : 16 + (k - net.n) % arcs);
-    case 1: /* one arc starved */
-        return (uint8_t)(k < net.n ? k : 16 + random_below(arcs > 1 ? arcs - 1 : 1));
-    case 2: /* newest arc first */
-        return (uint8_t)(k < net.n ? k : 16 + (arcs - 1 - (k - net.n) % arcs));
-    case 3: /* late starts: deliveries come before them */
-        return (uint8_t)(random_below(40) ? 16 + random_below(arcs) : random_below(net.n));
-    case 4: /* anything, unknown bytes too */
-        return (uint8_t)random_number();
-    default:
-        return (uint8_t)(random_below(8) ? 16 + random_below(arcs) : random_below(16));
-    }
-}
-
 static void one_house(unsigned kind, unsigned steps)
 {
     struct ref_truth truth;
@@ -83,11 +63,9 @@ static void one_house(unsigned kind, unsigned steps)
     ref_shortest(&net, &truth);
     size_t len = ref_network_bytes(&net, input);
     ref_start(&run, &net);
-    for (unsigned k = 0; k < steps; k++) {
-        input[len] = next_step(kind, k);
-        ref_step(&run, input[len]);
-        len++;
-    }
+    random_steps(&net, kind, input + len, steps);
+    for (unsigned k = 0; k < steps; k++)
+        ref_step(&run, input[len++]);
     same_text(len, reference_text(), "the text of a run");
     entries_are_true(&truth);
     check(run.refused == 0, "no sent list needs a 258th message");
@@ -98,12 +76,11 @@ static void every_length(void)
 {
     random_network(&net);
     size_t len = ref_network_bytes(&net, input);
+    random_steps(&net, 7, input + len, 300);
     ref_start(&run, &net);
     for (unsigned k = 0; k < 300; k++) {
         same_text(len, reference_text(), "the text after each step");
-        input[len] = next_step(5, k);
-        ref_step(&run, input[len]);
-        len++;
+        ref_step(&run, input[len++]);
     }
 }
 
@@ -128,7 +105,7 @@ static void refused_inputs(void)
 void test_houses(void)
 {
     for (unsigned round = 0; round < 6000; round++)
-        one_house(round % 6, random_below(10) ? random_below(600) : 3000 + random_below(6000));
+        one_house(round % STEP_KINDS, (unsigned)random_length());
     for (unsigned round = 0; round < 20; round++)
         every_length();
     refused_inputs();

@@ -5,23 +5,38 @@
 #include <stdio.h>
 #include <stdlib.h>
 #include <string.h>
+#include <time.h>
+
+enum { MOST_SHOWN = 700 };
 
 static unsigned long passed, failed;
+
+/* what the checks are about; without bytes it is a number */
 static struct {
     const char *name;
     const uint8_t *bytes;
     size_t len;
-} shown[3];
+} shown[6];
 
-void about(const char *name, const uint8_t *bytes, size_t len)
+static void show(const char *name, const uint8_t *bytes, size_t len)
 {
-    for (unsigned k = 0; k < 3; k++)
-        if (shown[k].name == NULL || shown[k].name == name) {
+    for (unsigned k = 0; k < sizeof shown / sizeof *shown; k++)
+        if (shown[k].name == NULL || strcmp(shown[k].name, name) == 0) {
             shown[k].name = name;
             shown[k].bytes = bytes;
             shown[k].len = len;
             return;
         }
+}
+
+void about(const char *name, const uint8_t *bytes, size_t len)
+{
+    show(name, bytes, len);
+}
+
+void about_number(const char *name, uint32_t number)
+{
+    show(name, NULL, number);
 }
 
 void check(int ok, const char *what)
@@ -34,76 +49,40 @@ void check(int ok, const char *what)
     if (failed > 10)
         return;
     printf("FAILED: %s\n", what);
-    for (unsigned k = 0; k < 3 && shown[k].name; k++) {
-        printf("  %s:", shown[k].name);
-        for (size_t b = 0; b < shown[k].len && b < 2000; b++)
-            printf(" %02X", shown[k].bytes[b]);
-        printf("\n");
+    for (unsigned k = 0; k < sizeof shown / sizeof *shown && shown[k].name; k++) {
+        printf("  %s: %zu", shown[k].name, shown[k].len);
+        for (size_t b = 0; shown[k].bytes && b < shown[k].len && b < MOST_SHOWN; b++)
+            printf("%s %02X", b == 0 ? " bytes" : "", shown[k].bytes[b]);
+        printf("%s\n", shown[k].bytes && shown[k].len > MOST_SHOWN ? " .." : "");
     }
 }
 
-static uint32_t state;
+static const struct {
+    const char *name;
+    void (*test)(void);
+} tests[] = {
+    {"networks", test_networks},
+    {"houses", test_houses},
+    {"01's examples", test_examples},
+    {"runs", test_runs},
+    {"entries and routes", test_entries},
+    {"arc lists", test_arcs},
+    {"writing files", test_files},
+    {"reading files", test_reading},
+    {"a killed writer", test_killed_writer},
+    {"what was seen", test_seen},
+};
 
-uint32_t random_number(void)
+static void run_tests(void)
 {
-    state ^= state << 13;
-    state ^= state >> 17;
-    state ^= state << 5;
-    return state;
-}
-
-unsigned random_below(unsigned bound)
-{
-    return random_number() % bound;
-}
-
-static void add_arc(struct ref_net *net, unsigned tail, unsigned head)
-{
-    if (tail == head || net->arcs == MOST_ARCS)
-        return;
-    for (unsigned k = 0; k < net->arcs; k++)
-        if (net->arc[k].tail == tail && net->arc[k].head == head)
-            return;
-    net->arc[net->arcs++] = (struct ref_arc){tail, head, 1 + random_below(net->lmax)};
-}
-
-void random_network(struct ref_net *net)
-{
-    net->n = 1 + random_below(MOST_NODES);
-    net->lmax = random_below(3) ? 1 + random_below(15) : 1 + random_below(2);
-    net->arcs = 0;
-    unsigned n = net->n, kind = random_below(7), share = 1 + random_below(100);
-    for (unsigned i = 1; i <= n; i++) {
-        switch (kind) {
-        case 0: /* a ring, one way */
-            add_arc(net, i, i % n + 1);
-            break;
-        case 1: /* a line, both ways */
-            if (i < n) {
-                add_arc(net, i, i + 1);
-                add_arc(net, i + 1, i);
-            }
-            break;
-        case 2: /* a star */
-            add_arc(net, 1, i);
-            add_arc(net, i, 1);
-            break;
-        case 3: /* two islands */
-            for (unsigned j = 1; j <= n; j++)
-                if (i % 2 == j % 2 && random_below(100) < share)
-                    add_arc(net, i, j);
-            break;
-        default:
-            for (unsigned j = 1; j <= n; j++)
-                if (random_below(100) < share)
-                    add_arc(net, i, j);
-        }
-    }
-    for (unsigned k = net->arcs; k > 1; k--) { /* in any order */
-        unsigned other = random_below(k);
-        struct ref_arc a = net->arc[k - 1];
-        net->arc[k - 1] = net->arc[other];
-        net->arc[other] = a;
+    for (size_t k = 0; k < sizeof tests / sizeof *tests; k++) {
+        unsigned long passed_before = passed, failed_before = failed;
+        clock_t began = clock();
+        memset(shown, 0, sizeof shown);
+        tests[k].test();
+        printf("%s: %lu checks, %lu failed, %.1f s\n", tests[k].name, passed + failed - passed_before - failed_before,
+            failed - failed_before, (double)(clock() - began) / CLOCKS_PER_SEC);
+        fflush(stdout);
     }
 }
 
@@ -113,11 +92,11 @@ int main(int argc, char **argv)
         print_house();
         return 0;
     }
-    unsigned long seed = argc > 1 ? strtoul(argv[1], NULL, 10) : 20011;
-    state = (uint32_t)seed ? (uint32_t)seed : 1;
-    printf("seed %lu\n", (unsigned long)state);
-    test_networks();
-    test_houses();
+    uint32_t seed = argc > 1 ? (uint32_t)strtoul(argv[1], NULL, 10) : 20011;
+    random_seed(seed);
+    printf("seed %lu\n", (unsigned long)seed);
+    fflush(stdout);
+    run_tests();
     printf("%lu passed, %lu failed\n", passed, failed);
     return failed != 0;
 }

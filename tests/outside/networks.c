@@ -9,7 +9,7 @@ static void compare(size_t len, const char *what)
 {
     struct ref_net net;
     about("network", bytes, len);
-    check(zaq_check_network(bytes, len) == ref_read_network(bytes, len, &net), what);
+    same_answer(CHECK, zaq_check_network(at_edge(0, bytes, len), len), ref_read_network(bytes, len, &net), what);
 }
 
 /* Network Q of document 01, and one fault of each kind in it, with the number that 01 gives. */
@@ -114,6 +114,15 @@ static void every_bit(void)
     }
 }
 
+static void spoiled(void)
+{
+    struct ref_net net;
+    for (unsigned round = 0; round < 30000; round++) {
+        random_network(&net);
+        compare(spoil_somehow(bytes, ref_network_bytes(&net, bytes)), "a network with one fault or two");
+    }
+}
+
 void test_networks(void)
 {
     each_fault();
@@ -121,4 +130,5 @@ void test_networks(void)
     all_headers();
     every_length();
     every_bit();
+    spoiled();
 }

@@ -70,7 +70,16 @@ struct ref_truth {
 };
 void ref_shortest(const struct ref_net *net, struct ref_truth *truth);
 
-/* A table file: written from a run, and read back. */
+/* The bytes of a node's table file; returns how many. The room has 32. */
 size_t ref_write_file(const struct ref_run *run, unsigned node, uint8_t *bytes);
-unsigned ref_read_file(const uint8_t *bytes, size_t len, unsigned target, struct ref_entry *entry);
+
+/* What a table file says. */
+struct ref_file {
+    unsigned own, n, lmax, count;
+    int ended; /* the end mark stands */
+    struct ref_record record[MOST_NODES];
+};
+/* The refusal's number, 14 to 18, 0 if none; then *file is what it says. */
+unsigned ref_read_file(const uint8_t *bytes, size_t len, struct ref_file *file);
+struct ref_entry ref_file_entry(const struct ref_file *file, unsigned target);
 #endif

@@ -1,0 +1,145 @@
+/* A network handed over as a list of arcs: its bytes, its refusals in document 01's order, and that every other call takes them. */
+#include "../../include/zaqfinell.h"
+#include "test.h"
+#include <string.h>
+
+enum { MOST_LISTED = 66000 };
+
+static zaq_arc list[MOST_LISTED];
+static struct ref_arc plain[MOST_LISTED];
+static struct ref_net net;
+
+static struct room {
+    uint8_t before[8], bytes[ZAQ_NETWORK_ROOM], behind[8];
+} got, want;
+
+/* The list packed by the library and by the reference; the refusal. */
+static unsigned same_packing(uint8_t n, uint8_t lmax, size_t count, const char *what)
+{
+    memset(&got, (int)random_below(256), sizeof got);
+    memcpy(&want, &got, sizeof got);
+    for (size_t k = 0; k < count; k++)
+        plain[k] = (struct ref_arc){list[k].tail, list[k].head, list[k].length};
+    unsigned refusal = ref_read_arc_list(n, lmax, plain, count, &net);
+    uint32_t right = refusal ? refusal : (uint32_t)ref_network_bytes(&net, want.bytes) << 8;
+    about_number("n", n);
+    about_number("LMAX", lmax);
+    about("arcs", (const uint8_t *)list, count * sizeof *list);
+    const zaq_arc *lent = (const zaq_arc *)at_edge(0, (const uint8_t *)list, count * sizeof *list);
+    same_answer(PACK, zaq_pack_network(n, lmax, lent, count, got.bytes), right, what);
+    check(memcmp(&got, &want, sizeof got) == 0, "the room holds the network's bytes and nothing else");
+    return refusal;
+}
+
+static size_t list_of(const struct ref_net *from)
+{
+    for (unsigned k = 0; k < from->arcs; k++)
+        list[k] = (zaq_arc){(uint8_t)from->arc[k].tail, (uint8_t)from->arc[k].head, (uint8_t)from->arc[k].len};
+    return from->arcs;
+}
+
+/* What was packed is accepted, and runs as the list's network does. */
+static void runs_the_same(unsigned kind)
+{
+    static uint8_t steps[1000];
+    static struct ref_run run;
+    uint64_t counts[4];
+    uint16_t entries[16][16][2];
+    size_t len = zaq_written(zaq_pack_network((uint8_t)net.n, (uint8_t)net.lmax, list, net.arcs, got.bytes));
+    random_steps(&net, kind, steps, sizeof steps);
+    ref_start(&run, &net);
+    for (size_t k = 0; k < sizeof steps; k++)
+        ref_step(&run, steps[k]);
+    same_answer(CHECK, zaq_check_network(got.bytes, len), 0, "a packed network is accepted");
+    same_answer(RUN, zaq_run(got.bytes, len, steps, sizeof steps, counts, entries), 0, "a packed network runs");
+    int same = counts[0] == run.taken && counts[1] == run.idle && counts[2] == run.unknown && counts[3] == ref_stopped(&run);
+    for (unsigned i = 1; i <= net.n; i++)
+        for (unsigned y = 1; y <= net.n; y++) {
+            struct ref_entry e = ref_entry_of(&run, i, y);
+            same &= entries[i - 1][y - 1][0] == header_distance(e) && entries[i - 1][y - 1][1] == header_hop(e);
+        }
+    check(same, "a packed network runs as its list says");
+}
+
+/* A fault of refusal `number` in the list, if it has a place for it. */
+static void spoil(uint8_t *n, uint8_t *lmax, size_t *count, unsigned number)
+{
+    zaq_arc *one = &list[random_below(*count ? (unsigned)*count : 1)], *other = &list[random_below(*count ? (unsigned)*count : 1)];
+    uint8_t over = (uint8_t)(*n + 1 + random_below(255 - *n));
+    if (number == 19)
+        *n = (uint8_t)(random_below(2) ? 17 + random_below(239) : 0);
+    if (number == 3)
+        *lmax = (uint8_t)(random_below(2) ? 16 + random_below(240) : 0);
+    if (number == 4)
+        *count = 241 + random_below(300);
+    if (number == 5)
+        *(random_below(2) ? &one->tail : &one->head) = random_below(3) ? over : 0;
+    if (number == 6)
+        one->head = one->tail;
+    if (number == 7)
+        one->length = (uint8_t)(random_below(2) ? *lmax + 1 + random_below(255 - *lmax) : 0);
+    if (number == 8) {
+        one->tail = other->tail;
+        one->head = other->head;
+    }
+}
+
+static void faults(void)
+{
+    static const unsigned numbers[] = {19, 3, 4, 5, 6, 7, 8};
+    for (unsigned round = 0; round < 30000; round++) {
+        random_network(&net);
+        uint8_t n = (uint8_t)net.n, lmax = (uint8_t)net.lmax;
+        size_t count = list_of(&net);
+        spoil(&n, &lmax, &count, numbers[random_below(7)]);
+        if (n < 17 && lmax < 16 && round % 2)
+            spoil(&n, &lmax, &count, numbers[random_below(7)]);
+        same_packing(n, lmax, count, "a list with one fault or two");
+    }
+}
+
+/* All of n and LMAX with lists that are empty or of one arc; all numbers of one arc. */
+static void every_number(void)
+{
+    for (unsigned n = 0; n < 256; n++)
+        for (unsigned lmax = 0; lmax < 256; lmax++) {
+            list[0] = (zaq_arc){1, 2, 1};
+            same_packing((uint8_t)n, (uint8_t)lmax, 0, "every n and LMAX, no arc");
+            same_packing((uint8_t)n, (uint8_t)lmax, 1, "every n and LMAX, one arc");
+        }
+    for (unsigned k = 0; k < 1u << 18; k++) {
+        static const uint8_t tried[] = {0, 1, 2, 3, 4, 5, 8, 15, 16, 17, 18, 31, 32, 33, 255};
+        list[0] = (zaq_arc){tried[k % 15], tried[k / 15 % 15], tried[k / 225 % 15]};
+        same_packing(tried[1 + k / 3375 % 8], tried[1 + k / 27000 % 7], 1, "every number in one arc");
+    }
+}
+
+/* Lists that are too long, also where the length's low bits are not. */
+static void too_long(void)
+{
+    static const size_t lengths[] = {240, 241, 242, 255, 256, 257, 300, 495, 496, 65535, 65536, 65537, 65776};
+    for (unsigned k = 0; k < sizeof lengths / sizeof *lengths; k++)
+        for (unsigned round = 0; round < 20; round++) {
+            do
+                random_network(&net);
+            while (net.arcs != MOST_ARCS);
+            uint8_t lmax = (uint8_t)net.lmax;
+            list_of(&net);
+            unsigned refusal = same_packing(16, lmax, lengths[k], "lists of 240 arcs and more");
+            check(refusal == (lengths[k] > 240 ? 4 : 0), "more than 240 arcs are too many");
+        }
+}
+
+void test_arcs(void)
+{
+    for (unsigned round = 0; round < 6000; round++) {
+        random_network(&net);
+        unsigned refusal = same_packing((uint8_t)net.n, (uint8_t)net.lmax, list_of(&net), "an accepted list");
+        check(refusal == 0, "document 01 accepts it");
+        if (round % 4 == 0)
+            runs_the_same(round / 4 % STEP_KINDS);
+    }
+    faults();
+    every_number();
+    too_long();
+}

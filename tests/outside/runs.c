@@ -1,0 +1,174 @@
+/* Requirement 2 for whole runs: the counts and every entry of zaq_run, against the simulation and against shortest chains, and what it
+ * leaves alone in both rooms. */
+#include "../../include/zaqfinell.h"
+#include "test.h"
+#include <string.h>
+
+enum { LONG_LIST = 300000 };
+
+static struct ref_net net;
+static struct ref_run run;
+static struct ref_truth truth;
+static uint8_t bytes[512], steps[LONG_LIST];
+static unsigned long sizes[MOST_NODES + 1][16], arc_counts[MOST_ARCS + 1]; /* of the networks that were run */
+
+/* Both rooms of a call, with canaries around them. */
+static struct rooms {
+    uint64_t before, counts[4], between;
+    uint16_t entries[16][16][2];
+    uint64_t behind;
+} got, want;
+
+/* What the rooms hold after the simulated run, if they held the same before. */
+static void outcome(void)
+{
+    want.counts[0] = run.taken;
+    want.counts[1] = run.idle;
+    want.counts[2] = run.unknown;
+    want.counts[3] = ref_stopped(&run);
+    for (unsigned i = 1; i <= net.n; i++)
+        for (unsigned y = 1; y <= net.n; y++) {
+            want.entries[i - 1][y - 1][0] = (uint16_t)header_distance(ref_entry_of(&run, i, y));
+            want.entries[i - 1][y - 1][1] = (uint16_t)header_hop(ref_entry_of(&run, i, y));
+        }
+}
+
+static void same_run(size_t len, size_t count, unsigned refusal, const char *what)
+{
+    memset(&got, (int)random_below(256), sizeof got);
+    memcpy(&want, &got, sizeof got);
+    if (refusal == 0)
+        outcome();
+    about("network", bytes, len);
+    about("steps", steps, count);
+    const uint8_t *lent_net = at_edge(0, bytes, len), *lent_steps = at_edge(1, steps, count);
+    same_answer(RUN, zaq_run(lent_net, len, lent_steps, count, got.counts, got.entries), refusal, what);
+    check(memcmp(&got, &want, sizeof got) == 0, "both rooms hold the outcome and nothing else");
+    check(memcmp(lent_net, bytes, len) == 0 && memcmp(lent_steps, steps, count) == 0, "zaq_run leaves its inputs alone");
+}
+
+static size_t simulate(size_t count)
+{
+    ref_start(&run, &net);
+    for (size_t k = 0; k < count; k++)
+        ref_step(&run, steps[k]);
+    return ref_network_bytes(&net, bytes);
+}
+
+/* Each entry handed over that is not unknown is the truth over all chains; unreachable only where there is none. */
+static void entries_are_true(size_t count)
+{
+    int right = 1;
+    for (unsigned i = 1; i <= net.n; i++)
+        for (unsigned y = 1; y <= net.n; y++) {
+            const uint16_t *e = got.entries[i - 1][y - 1];
+            struct ref_entry least = {truth.distance[i][y], truth.hop[i][y]};
+            if (e[0] != ZAQ_UNKNOWN)
+                right &= e[0] == header_distance(least) && e[1] == header_hop(least);
+            else
+                right &= e[1] == ZAQ_NO_HOP;
+            saw_distance(RUN, e[0]);
+        }
+    check(right, "entries are the distances and first hops over all chains");
+    check(got.counts[0] + got.counts[1] + got.counts[2] == count, "the three counts add up to the list's length");
+}
+
+static void one_run(unsigned kind, size_t count)
+{
+    random_network(&net);
+    ref_shortest(&net, &truth);
+    random_steps(&net, kind, steps, count);
+    same_run(simulate(count), count, 0, "a run is not refused");
+    entries_are_true(count);
+    check(run.refused == 0, "no sent list needs a 258th message");
+    sizes[net.n][net.lmax]++;
+    arc_counts[net.arcs]++;
+}
+
+static void every_size_was_run(void)
+{
+    for (unsigned n = 1; n <= MOST_NODES; n++)
+        for (unsigned lmax = 1; lmax <= 15; lmax++)
+            check(sizes[n][lmax] > 0, "every n with every LMAX was run");
+    check(arc_counts[0] > 0 && arc_counts[MOST_ARCS] > 0, "networks of no arc and of 240 were run");
+}
+
+/* Every beginning of a step list. */
+static void every_length(unsigned kind)
+{
+    random_network(&net);
+    ref_shortest(&net, &truth);
+    random_steps(&net, kind, steps, 300);
+    size_t len = simulate(0);
+    for (size_t count = 0; count <= 300; count++) {
+        same_run(len, count, 0, "a list cut at any length is not refused");
+        entries_are_true(count);
+        if (count < 300)
+            ref_step(&run, steps[count]);
+    }
+}
+
+/* Every node starts, and arcs deliver in any order until all have stopped: nothing is unknown, and every entry is the truth. */
+static void to_the_end(void)
+{
+    random_network(&net);
+    ref_shortest(&net, &truth);
+    size_t count = 0, len = simulate(0);
+    while (ref_stopped(&run) < net.n && count < LONG_LIST) {
+        steps[count] = (uint8_t)(count < net.n ? count : 16 + random_below(net.arcs));
+        ref_step(&run, steps[count++]);
+    }
+    same_run(len, count, 0, "a run to the end is not refused");
+    entries_are_true(count);
+    int filled = 1;
+    for (unsigned i = 0; i < net.n; i++)
+        for (unsigned y = 0; y < net.n; y++)
+            filled &= got.entries[i][y][0] != ZAQ_UNKNOWN;
+    check(got.counts[3] == net.n && filled, "once all have stopped nothing is unknown");
+}
+
+/* Each count goes beyond 16 bits where the list is long enough. */
+static void long_lists(void)
+{
+    do
+        random_network(&net);
+    while (net.arcs != MOST_ARCS);
+    ref_shortest(&net, &truth);
+    random_steps(&net, 0, steps, LONG_LIST);
+    same_run(simulate(LONG_LIST), LONG_LIST, 0, "a long list of idle steps");
+    check(got.counts[1] > 65536, "more idle steps than 16 bits can count");
+    do
+        random_network(&net);
+    while (net.arcs > 20);
+    random_steps(&net, 4, steps, LONG_LIST);
+    same_run(simulate(LONG_LIST), LONG_LIST, 0, "a long list of unknown steps");
+    check(got.counts[2] > 65536, "more unknown steps than 16 bits can count");
+}
+
+/* A network that is refused changes neither room, whatever the steps. */
+static void refused_networks(void)
+{
+    struct ref_net dummy;
+    for (unsigned round = 0; round < 8000; round++) {
+        random_network(&net);
+        size_t count = random_below(50);
+        random_steps(&net, 7, steps, count);
+        size_t len = spoil_somehow(bytes, simulate(0));
+        unsigned refusal = ref_read_network(bytes, len, &dummy);
+        if (refusal)
+            same_run(len, count, refusal, "a refused network");
+    }
+}
+
+void test_runs(void)
+{
+    for (unsigned round = 0; round < 12000; round++)
+        one_run(round % STEP_KINDS, random_length());
+    every_size_was_run();
+    for (unsigned round = 0; round < 40; round++)
+        every_length(round % STEP_KINDS);
+    for (unsigned round = 0; round < 400; round++)
+        to_the_end();
+    long_lists();
+    refused_networks();
+}

@@ -1,0 +1,110 @@
+/* How often each refusal and each kind of answer was seen, call by call; and inputs at the end of memory. */
+#define _DEFAULT_SOURCE
+#include "../../include/zaqfinell.h"
+#include "test.h"
+#include <stdio.h>
+#include <stdlib.h>
+#include <string.h>
+#include <sys/mman.h>
+#include <unistd.h>
+
+enum { OWN, DISTANCE, FARTHEST, NOT_KNOWN, NOT_REACHABLE, KINDS };
+enum { OFTEN = 100 };
+
+static unsigned long refusals[CALLS][256], kinds[CALLS][KINDS];
+
+/* What the header says of each call. */
+static const struct {
+    const char *name;
+    int entries; /* it hands over distances */
+    unsigned refusals[16];
+} promised[CALLS] = {
+    [CHECK] = {"zaq_check_network", 0, {1, 2, 3, 4, 5, 6, 7, 8, 9}},
+    [WRITE] = {"zaq_write_table", 0, {1, 2, 3, 4, 5, 6, 7, 8, 9, 11, 12, 13}},
+    [READ_ENTRY] = {"zaq_read_entry", 1, {11, 14, 15, 16, 17, 18}},
+    [READ_TABLE] = {"zaq_read_table", 1, {13, 14, 15, 16, 17, 18}},
+    [RUN] = {"zaq_run", 1, {1, 2, 3, 4, 5, 6, 7, 8, 9}},
+    [ENTRY] = {"zaq_entry", 1, {1, 2, 3, 4, 5, 6, 7, 8, 9, 11}},
+    [ROUTE] = {"zaq_route", 1, {1, 2, 3, 4, 5, 6, 7, 8, 9, 11}},
+    [PACK] = {"zaq_pack_network", 0, {3, 4, 5, 6, 7, 8, 19}},
+};
+
+void same_answer(enum call call, uint32_t got, uint32_t want, const char *what)
+{
+    check(got == want, what);
+    refusals[call][zaq_refusal(got)]++;
+    if (zaq_refusal(got) == 0 && (call == READ_ENTRY || call == ENTRY || call == ROUTE))
+        saw_distance(call, zaq_distance(got));
+}
+
+void saw_distance(enum call call, unsigned distance)
+{
+    kinds[call][distance == ZAQ_UNKNOWN ? NOT_KNOWN : distance == ZAQ_UNREACHABLE ? NOT_REACHABLE : distance == 0 ? OWN : DISTANCE]++;
+    if (distance == 225)
+        kinds[call][FARTHEST]++;
+}
+
+unsigned header_distance(struct ref_entry e)
+{
+    return e.distance == UNKNOWN ? ZAQ_UNKNOWN : e.distance == UNREACHABLE ? ZAQ_UNREACHABLE : (unsigned)e.distance;
+}
+
+unsigned header_hop(struct ref_entry e)
+{
+    return e.distance < 0 ? ZAQ_NO_HOP : e.hop;
+}
+
+uint32_t entry_answer(struct ref_entry e)
+{
+    return (uint32_t)header_distance(e) << 16 | (uint32_t)header_hop(e) << 8;
+}
+
+static int is_promised(enum call call, unsigned refusal)
+{
+    for (unsigned k = 0; promised[call].refusals[k]; k++)
+        if (promised[call].refusals[k] == refusal)
+            return 1;
+    return refusal == 0;
+}
+
+static void seen_of(enum call call)
+{
+    char what[80];
+    for (unsigned refusal = 0; refusal < 256; refusal++) {
+        snprintf(what, sizeof what, "%s: refusal %u seen %lu times", promised[call].name, refusal, refusals[call][refusal]);
+        if (is_promised(call, refusal))
+            check(refusals[call][refusal] >= OFTEN, what);
+        else
+            check(refusals[call][refusal] == 0, what);
+    }
+    for (unsigned kind = 0; kind < KINDS && promised[call].entries; kind++) {
+        snprintf(what, sizeof what, "%s: entries of kind %u seen %lu times", promised[call].name, kind, kinds[call][kind]);
+        check(kinds[call][kind] >= (kind == FARTHEST ? 1 : OFTEN), what);
+    }
+}
+
+void test_seen(void)
+{
+    for (unsigned call = 0; call < CALLS; call++)
+        seen_of((enum call)call);
+}
+
+const uint8_t *at_edge(unsigned place, const uint8_t *bytes, size_t len)
+{
+    enum { SIZE = 1 << 20 };
+    static uint8_t *end[3];
+    if (end[place] == NULL) {
+        size_t page = (size_t)sysconf(_SC_PAGESIZE);
+        uint8_t *memory = mmap(NULL, SIZE + page, PROT_READ | PROT_WRITE, MAP_PRIVATE | MAP_ANONYMOUS, -1, 0);
+        if (memory == MAP_FAILED || mprotect(memory + SIZE, page, PROT_NONE) != 0) {
+            perror("memory with an edge");
+            exit(2);
+        }
+        end[place] = memory + SIZE;
+    }
+    if (len > SIZE) {
+        fprintf(stderr, "%zu bytes are too many for an edge\n", len);
+        exit(2);
+    }
+    return memcpy(end[place] - len, bytes, len);
+}
