@@ -10,10 +10,10 @@ use Rattle.method.specs.Network.{Net, IsNode}
 use Rattle.method.specs.Steps.{Counts, steps, run}
 use Rattle.network.specs.Refusal.{when, _else_, outside}
 use Rattle.network.specs.Bytes.{network, refusal}
-use Rattle.network.specs.Answer.{laidOut}
+use Rattle.network.specs.LaidOut.{laidOut}
 use Rattle.network.specs.Layout.{netOf, Laid}
 use Rattle.network.proofs.Refused.{none, second, first, fails, inside}
-use Rattle.network.proofs.Laws.{lay-laid}
+use Rattle.network.proofs.Laws.{checks}
 use Rattle.cells.specs.Part.{Part}
 use Rattle.run.specs.Ran.{Ran}
 use Rattle.calls.specs.Calls.{nodesOf, tenRefusal, entryRefusal}
@@ -23,7 +23,7 @@ use Rattle.ask.specs.Asking.{elevens, askRefusal, Ready}
 -- where the network is not refused, it is laid out for the run
 module _ (net : List ℕ) (taken : refusal net ≡ 0) (g : List ℕ) (is : g ≡ laidOut (network net)) where
   pub laid : Laid g × (netOf g ≡ network net)
-  laid = lay-laid net g taken is
+  laid = checks .bytes-laid net g taken is
 
   pub nodes-laid : nodesOf net ≡ getD g 0 0
   nodes-laid = sym (ap (λ (n : Net). n .n) (laid .1))

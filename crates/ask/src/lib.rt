@@ -3,7 +3,7 @@ ghost use mathlib.Core.Path.{_≡_};
 ghost use lib.ListN.{length};
 ghost use Rattle.network.specs.Refusal.{outside};
 ghost use Rattle.network.specs.Bytes.{network};
-ghost use Rattle.network.specs.Answer.{blank, laidOut};
+ghost use Rattle.network.specs.LaidOut.{blank, laidOut};
 ghost use Rattle.cells.specs.Part.{cells, stateSize};
 ghost use Rattle.calls.specs.Calls.{entryRefusal, entryAnswer, routeAnswer, routeRoom};
 ghost use Rattle.ask.specs.Asking.{askRefusal, Ready, nodesOn};

@@ -17,9 +17,9 @@ use Rattle.network.specs.Refusal.{when, _else_, outside}
 use Rattle.network.specs.Room.{unless, begins}
 use Rattle.network.specs.Bytes.{network, refusal}
 use Rattle.network.specs.Layout.{netOf, Laid}
-use Rattle.network.specs.Answer.{laidOut}
+use Rattle.network.specs.LaidOut.{laidOut}
 use Rattle.network.proofs.Refused.{not-outside}
-use Rattle.network.proofs.Laws.{lay-laid}
+use Rattle.network.proofs.Laws.{checks}
 use Rattle.cells.specs.Part.{Part, phaseAt, phaseOf}
 use Rattle.run.specs.Ran.{Ran}
 use Rattle.table.specs.File.{one}
@@ -101,7 +101,7 @@ beyond m y h = rw (ne-eqb y 0 (omega arith), lt-ltb m y h)
 -- a network that is not refused is laid out as the run asks
 module _ (net : List ℕ) (f : ℕ) (e : f ≡ refusal net) (z : f ≡ 0) (g : List ℕ) (is : g ≡ laidOut (network net)) where
   laid-out : Laid g × (netOf g ≡ network net)
-  laid-out = lay-laid net g (sym e ∙ z) is
+  laid-out = checks .bytes-laid net g (sym e ∙ z) is
 
   pub taken-laid : Laid g
   taken-laid = laid-out .0

@@ -2,7 +2,7 @@
 -- Assumes nothing.
 use mathlib.Core.Path.{_≡_, refl}
 use mathlib.Core.List.{List, [], _∷_, map}
-use Prim.Native.Nat.{ℕ}
+use Prim.Native.Nat.{ℕ, _*_}
 use lib.ListN.{replicate}
 use Rattle.bits.specs.Bits.{asBits, bitsOf, number, field, packed}
 use Rattle.method.specs.Network.{Arc}
@@ -10,6 +10,7 @@ use Rattle.method.proofs.Example.{Q}
 use Rattle.network.specs.Refusal.{joined, arcRefusal, arcsRefusal}
 use Rattle.network.specs.Bytes.{network, headRefusal, refusal, arcBits, netBits, bytesOf}
 use Rattle.network.specs.ArcList.{sizeRefusal, listRefusal}
+use Rattle.network.specs.Pack.{packAnswer}
 
 abbrev arc : ℕ → ℕ → ℕ → Arc
 arc i j l = record { tail = i; head = j; len = l }
@@ -38,6 +39,11 @@ Q-network = refl
 pub Q-packed : bytesOf 3 4 (list 4) ≡ bytes 4
 unfolding packed netBits arcBits number asBits
 Q-packed = refl
+
+-- nine bytes, or the refusal
+pub Q-answers : map (λ (l : ℕ). packAnswer 3 4 (list l)) (4 ∷ 5 ∷ []) ≡ 256 * 9 ∷ 7 ∷ []
+unfolding sizeRefusal listRefusal arcsRefusal arcRefusal joined
+Q-answers = refl
 
 -- two nodes and one arc, with its last byte's second half as padding
 abbrev pair : ℕ → ℕ → ℕ → ℕ → ℕ → List ℕ

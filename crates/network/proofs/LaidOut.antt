@@ -12,7 +12,7 @@ use borrow.Author.Tests.{eqb-true}
 use Rattle.method.specs.Network.{Arc, Net, IsArc, Single, Accepted}
 use Rattle.method.specs.Network.{house}
 use Rattle.network.specs.Layout.{lenAt, arcsFrom, netOf, Laid}
-use Rattle.network.specs.Answer.{headed, cell, withArc, withArcs, laidOut}
+use Rattle.network.specs.LaidOut.{headed, cell, withArc, withArcs, laidOut}
 use Rattle.network.proofs.WithArc.{length-headed, cell-blank, length-withArcs, withArcs-stay, at-tail, at-head, at-cell, cell-after}
 use Rattle.network.proofs.Sound.{each-sound, single, Taken, accepted}
 

@@ -8,7 +8,8 @@ pub mod AsList
 pub mod Marks
 pub mod OneMore
 pub mod Whole
-pub mod Answered
-pub mod Gathered
+pub mod Pairs
+pub mod Written
+pub mod ByRecord
 pub mod Laws
 pub mod Example

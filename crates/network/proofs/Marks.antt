@@ -11,7 +11,7 @@ use borrow.Author.Tests.{ne-eqb}
 use Rattle.method.specs.Network.{Arc}
 use Rattle.network.specs.Refusal.{when, _else_, outside, joined, arcRefusal, arcsRefusal}
 use Rattle.network.specs.Layout.{lenAt}
-use Rattle.network.specs.Answer.{headed, withArc}
+use Rattle.network.specs.LaidOut.{headed, withArc}
 use Rattle.network.specs.Marks.{marked, marksRefusal}
 use Rattle.network.proofs.WithArc.{length-headed, cell-blank, cell-after}
 use Rattle.network.proofs.Sound.{sound}

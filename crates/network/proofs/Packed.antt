@@ -3,7 +3,7 @@
 use mathlib.Core.Path.{_≡_, refl, sym, _∙_, ap, ap₂}
 use mathlib.Core.Logic.{inl, inr}
 use mathlib.Core.List.{List, [], _∷_, _++_, append-assoc, append-nil}
-use Prim.Native.Nat.{ℕ, suc, _+_, _-_, _*_, _^_, _≤_, _<_}
+use Prim.Native.Nat.{ℕ, suc, _+_, _-_, _*_, _^_, _<_}
 use native.Mathlib.Omega.{arith}
 use lib.ListN.{length, length-append}
 use lib.Pow.{pow-pos}
@@ -13,16 +13,13 @@ use Rattle.bits.proofs.Below.{below-append}
 use Rattle.bits.proofs.AsBits.{length-asBits, bits-asBits}
 use Rattle.bits.proofs.Field.{field-at-whole}
 use Rattle.bits.proofs.Bytes.{bits-packed, length-packed}
-use Rattle.method.specs.Network.{Arc, IsArc}
+use Rattle.method.specs.Network.{Arc}
 use Rattle.method.specs.Network.{house}
 use Rattle.network.specs.Refusal.{arcsRefusal}
 use Rattle.network.specs.Bytes.{version, nodes, lmax, fourth, count, arcs, network, size, spare, padding, headRefusal, refusal, arcBits, netBits, bytesOf}
+use Rattle.network.specs.Pairs.{AllFit}
 use Rattle.network.proofs.Refused.{not-outside}
 use Rattle.network.proofs.Sound.{each-sound, Taken}
-
--- the fields of an arc hold it
-abbrev Fit : List Arc → Type 0
-Fit ar = (i j l : ℕ) → IsArc ar i j l → (1 ≤ i) × (i ≤ 16) × (1 ≤ j) × (j ≤ 16) × (l ≤ 15)
 
 abbrev bitsOfArc : Arc → List ℕ
 bitsOfArc a = asBits 4 (a .tail - 1) ++ asBits 4 (a .head - 1) ++ asBits 4 (a .len)
@@ -38,7 +35,7 @@ bits-arcBits [] = record { each = λ i. omega arith }
 bits-arcBits (a ∷ ar) = below-append (below-append (below-append (bits-asBits 4 _) (bits-asBits 4 _)) (bits-asBits 4 _)) (bits-arcBits ar)
 
 -- where the bits behind A are those of arcs, the bytes have these arcs
-arcs-read : (s A R : List ℕ) (k : ℕ) (ar : List Arc) → bitsOf s ≡ A ++ (arcBits ar ++ R) → length A ≡ 24 + 12 * k → Fit ar → arcs s k (length ar) ≡ ar
+arcs-read : (s A R : List ℕ) (k : ℕ) (ar : List Arc) → bitsOf s ≡ A ++ (arcBits ar ++ R) → length A ≡ 24 + 12 * k → AllFit ar → arcs s k (length ar) ≡ ar
 unfolding arcBits
 arcs-read s A R k [] e l fit = refl
 arcs-read s A R k (a ∷ ar) e l fit =
@@ -122,7 +119,7 @@ module _ (n lm : ℕ) (ar : List Arc) (t : Taken n lm ar) where
   length-A : length A ≡ 24
   length-A = simp (length-append, length-asBits)
 
-  fit : Fit ar
+  fit : AllFit ar
   fit i j l k =
       let a = each-sound n lm [] ar (t .arcs) i j l k in
       omega (arith, t .nodes, t .lengths)

@@ -12,7 +12,7 @@ use Rattle.bits.proofs.Bytes.{field-below}
 use Rattle.method.specs.Network.{Arc}
 use Rattle.network.specs.Refusal.{when, _else_, arcsRefusal}
 use Rattle.network.specs.Bytes.{nodes, lmax, count, arcs, spare, padding, headRefusal, refusal}
-use Rattle.network.specs.Answer.{headed}
+use Rattle.network.specs.LaidOut.{headed}
 use Rattle.network.specs.Marks.{marksRefusal}
 use Rattle.network.proofs.Refused.{first, second}
 use Rattle.network.proofs.Header.{Headed, header}

@@ -12,7 +12,7 @@ use lib.Dec.{eqb}
 use borrow.Author.Tests.{eqb-true, eqb-false}
 use Rattle.method.specs.Network.{Arc, IsArc}
 use Rattle.network.specs.Layout.{lenAt}
-use Rattle.network.specs.Answer.{blank, headed, cell, withArc, withArcs}
+use Rattle.network.specs.LaidOut.{blank, headed, cell, withArc, withArcs}
 
 -- before the arcs: 772 bytes, and no arc in the table
 module _ (n lmax m : ℕ) where

@@ -1,21 +1,16 @@
 -- 01, "What is built": "The arcs are handed over as a lent list of records, each with tail, head and length", with n and LMAX as numbers.
 -- Assumes nothing.
 use Prim.Native.Nat.{ℕ}
-use mathlib.Core.List.{List, [], map}
+use mathlib.Core.List.{List, []}
 use lib.ListN.{length}
 use lib.Dec.{ltb}
-use Rattle.method.specs.Network.{Arc as MethodArc, Net}
-use Rattle.method.specs.Network.{house}
+use Rattle.method.specs.Network.{Arc as MethodArc}
 use Rattle.network.specs.Refusal.{asArc, when, _else_, outside, arcsRefusal}
 use Rattle.network.specs.declared.Arc.{Arc}
 
 -- a record as an arc of the method
 abbrev pub given : Arc → MethodArc
 given a = asArc (a .tail) (a .head) (a .len)
-
--- the network that n, LMAX and the records mean
-abbrev pub listed : ℕ → ℕ → List Arc → Net
-listed n lmax ar = house n lmax (map given ar)
 
 -- "Arc list: 19, 3, 4": what is refused before m arcs
 unfoldable pub sizeRefusal : ℕ → ℕ → ℕ → ℕ

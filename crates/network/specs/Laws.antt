@@ -3,13 +3,12 @@
 use Prim.Native.Nat.{ℕ}
 use mathlib.Core.Path.{_≡_}
 use mathlib.Core.List.{List}
-use Rattle.method.specs.Network.{Arc, Net, Accepted}
+use Rattle.method.specs.Network.{Arc, Accepted}
 use Rattle.method.specs.Network.{house}
 use Rattle.network.specs.Bytes.{nodes, lmax, count, arcs, network, refusal, bytesOf}
 use Rattle.network.specs.ArcList.{listRefusal}
-use Rattle.network.specs.Answer.{answer}
+use Rattle.network.specs.LaidOut.{laidOut}
 use Rattle.network.specs.Layout.{netOf, Laid}
-use Rattle.network.specs.declared.Checked.{Checked}
 
 pub record Checks : Type 0 where
   -- bytes that are not refused mean an accepted network
@@ -21,10 +20,8 @@ pub record Checks : Type 0 where
   -- and the bytes of an arc list that is not refused are not refused, and mean the same network
   pub list-as-bytes : (n lmax : ℕ) (ar : List Arc) → listRefusal n lmax ar ≡ 0
       → (refusal (bytesOf n lmax ar) ≡ 0) × (network (bytesOf n lmax ar) ≡ house n lmax ar)
-  -- the answer says the refusal
-  pub answer-refusal : (r : ℕ) (net : Net) → answer r net .refusal ≡ r
-  -- an answer that refuses nothing has the network laid out as the run asks: of bytes
-  pub bytes-laid : (s : List ℕ) (c : Checked) → c ≡ answer (refusal s) (network s) → c .refusal ≡ 0 → Laid (c .laid) × (netOf (c .laid) ≡ network s)
-  -- and of an arc list
-  pub list-laid : (n lmax : ℕ) (ar : List Arc) (c : Checked) → c ≡ answer (listRefusal n lmax ar) (house n lmax ar) → c .refusal ≡ 0
-      → Laid (c .laid) × (netOf (c .laid) ≡ house n lmax ar)
+  -- bytes that are not refused are laid out as the run asks
+  pub bytes-laid : (s g : List ℕ) → refusal s ≡ 0 → g ≡ laidOut (network s) → Laid g × (netOf g ≡ network s)
+  -- and an arc list that is not refused is laid out so
+  pub list-laid : (n lmax : ℕ) (ar : List Arc) → listRefusal n lmax ar ≡ 0
+      → Laid (laidOut (house n lmax ar)) × (netOf (laidOut (house n lmax ar)) ≡ house n lmax ar)

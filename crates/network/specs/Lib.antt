@@ -2,7 +2,9 @@ pub mod Refusal
 pub mod Room
 pub mod Bytes
 pub mod ArcList
+pub mod Pack
 pub mod Layout
-pub mod Answer
+pub mod LaidOut
 pub mod Marks
+pub mod Pairs
 pub mod Laws

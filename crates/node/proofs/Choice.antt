@@ -57,21 +57,21 @@ module _ (g : List ℕ) (la : Laid g) (ss : ℕ → List Msg) (m : ℕ → Part)
 
   -- against what rule 1 gives
   abbrev Agrees : Option Choice → Type 0
-  Agrees none = least (m i) (netOf g .n) .sum ≡ noSum
-  Agrees (some p) = least (m i) (netOf g .n) ≡ p
+  Agrees none = least (m i) 16 .sum ≡ noSum
+  Agrees (some p) = least (m i) 16 ≡ p
 
   agrees : (o : Option Choice) → Chosen (netOf g .rank) items (λ j l. IsArc (netOf g .arcs) i j l) o → Agrees o
-  agrees none c = least-none (m i) (netOf g .n) (λ h pos le. no-sum h (omega (arith, la .accepted .sizes .nodes .1)) (λ l a. c h l a))
+  agrees none c = least-none (m i) 16 (λ h pos le. no-sum h (omega arith) (λ l a. c h l a))
   agrees (some p) c =
       let at = la .accepted .valid .heads i (p .head) (c .0 .len) (c .0 .arc) in
       let s = arc-sum (p .head) (c .0 .len) (c .0 .now) (c .0 .arc) (c .0 .itemIs) in
-      least-is (m i) p (at .0) (s .0 ∙ sym (c .0 .sumIs)) (omega (arith, s .1, c .0 .sumIs)) (netOf g .n) (at .1) first
+      least-is (m i) p (at .0) (s .0 ∙ sym (c .0 .sumIs)) (omega (arith, s .1, c .0 .sumIs)) 16 (omega (arith, at .1, la .accepted .sizes .nodes .1)) first
     where
-      first : (h : ℕ) → 1 ≤ h → h ≤ netOf g .n → (p .sum < m i (40 + h)) ⊎ ((p .sum ≡ m i (40 + h)) × (p .head ≤ h))
+      first : (h : ℕ) → 1 ≤ h → h ≤ 16 → (p .sum < m i (40 + h)) ⊎ ((p .sum ≡ m i (40 + h)) × (p .head ≤ h))
       first h pos le = go (eqb (lenAt g i h) 255) refl (items h) refl
         where
           lt : h < 17
-          lt = omega (arith, la .accepted .sizes .nodes .1)
+          lt = omega arith
 
           far : m i (40 + h) ≡ noSum → (p .sum < m i (40 + h)) ⊎ ((p .sum ≡ m i (40 + h)) × (p .head ≤ h))
           far e = inl (omega (arith, c .0 .sumIs, arc-sum (p .head) (c .0 .len) (c .0 .now) (c .0 .arc) (c .0 .itemIs) .1))
@@ -91,7 +91,7 @@ module _ (g : List ℕ) (la : Laid g) (ss : ℕ → List Msg) (m : ℕ → Part)
   agreed = agrees choice (rule₁-ok (netOf g .rank) items i (netOf g .arcs))
 
   -- Rule 2: it stops
-  pub stops : m i 3 + netOf g .lmax < least (m i) (netOf g .n) .sum → turnAt (netOf g) i ss to₁ (siteOf (m i)) ≡ rests (stop (nodeOf (m i)))
+  pub stops : m i 3 + netOf g .lmax < least (m i) 16 .sum → turnAt (netOf g) i ss to₁ (siteOf (m i)) ≡ rests (stop (nodeOf (m i)))
   unfolding turnAt
   stops lt = go choice agreed
     where
@@ -100,10 +100,10 @@ module _ (g : List ℕ) (la : Laid g) (ss : ℕ → List Msg) (m : ℕ → Part)
       go (some p) a = rw (lt-ltb (m i 3 + netOf g .lmax) (p .sum) (omega (arith, ap (λ (c : Choice). c .sum) a)))
 
   -- or it goes on with that arc
-  pub holds : least (m i) (netOf g .n) .sum ≤ m i 3 + netOf g .lmax → Held (netOf g) i items (to₃ (least (m i) (netOf g .n))) (nodeOf (m i))
+  pub holds : least (m i) 16 .sum ≤ m i 3 + netOf g .lmax → Held (netOf g) i items (to₃ (least (m i) 16)) (nodeOf (m i))
   holds le = go choice refl agreed
     where
-      go : (o : Option Choice) → choice ≡ o → Agrees o → Held (netOf g) i items (to₃ (least (m i) (netOf g .n))) (nodeOf (m i))
+      go : (o : Option Choice) → choice ≡ o → Agrees o → Held (netOf g) i items (to₃ (least (m i) 16)) (nodeOf (m i))
       go none e a = absurd (omega (arith, a, lp-low g la ss m i rd))
       go (some p) e a = (e ∙ ap some (sym a), le)
 
@@ -112,7 +112,7 @@ module _ (g : List ℕ) (la : Laid g) (ss : ℕ → List Msg) (m : ℕ → Part)
     pub node : IsNode (netOf g .n) (p .head)
     pub other : p .head ≢ i
     pub len : lenAt g i (p .head) ≤ 15
-    pub least-head : p .head ≡ least (m i) (netOf g .n) .head
+    pub least-head : p .head ≡ least (m i) 16 .head
 
   pub on-arc : (p : Choice) → Held (netOf g) i items (to₃ p) (nodeOf (m i)) → OnArc p
   on-arc p held =

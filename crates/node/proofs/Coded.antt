@@ -1,13 +1,10 @@
--- The code of rules 1, 3 and 4 makes of a part what specs/Rules says.
+-- The code of rules 3 and 4 makes of a part what specs/Rules says.
 -- Assumes nothing.
-use mathlib.Core.Path.{_≡_, refl, sym, ap, _∙_}
+use mathlib.Core.Path.{_≡_, sym, ap, _∙_}
 use mathlib.Core.Logic.{_≢_}
-use mathlib.Core.Bool.{Bool, true, false, cond}
 use mathlib.Core.List.{List}
-use Prim.Native.Nat.{ℕ, suc, _+_, _-_, _≤_, _<_}
+use Prim.Native.Nat.{ℕ, _+_, _-_, _≤_, _<_}
 use native.Mathlib.Omega.{arith}
-use native.Mathlib.Numerals.{add-one}
-use lib.Dec.{ltb}
 use borrow.Author.Tests.{le-leb, lt-leb, eq-eqb, ne-eqb}
 use Rattle.network.specs.Layout.{lenAt}
 use Rattle.cells.specs.Part.{Part}
@@ -16,17 +13,7 @@ use Rattle.cells.proofs.Stored.{named, then}
 use Rattle.cells.proofs.Meaning.{skip}
 use Rattle.node.specs.declared.Heard.{Heard}
 use Rattle.node.specs.declared.Heard.the-variants.{Nothing, Label, Length}
-use Rattle.node.specs.Rules.{least, hears, heardOf, nextOf, takes, tookOf, Room, Able}
-
--- one head more
-pub least-next : (f : Part) (k x s h : ℕ) → x ≡ f (40 + (k + 1)) → s ≡ least f k .sum → h ≡ least f k .head
-    → (cond (ltb x s) x s ≡ least f (k + 1) .sum) × (cond (ltb x s) (k + 1) h ≡ least f (k + 1) .head)
-least-next f k x s h ex es eh = rw (add-one k, ex, es, eh, add-one k) (go (ltb (f (40 + suc k)) (least f k .sum)))
-  where
-    go : (b : Bool) → (cond b (f (40 + suc k)) (least f k .sum) ≡ cond b (record { sum = f (40 + suc k); head = suc k }) (least f k) .sum)
-        × (cond b (suc k) (least f k .head) ≡ cond b (record { sum = f (40 + suc k); head = suc k }) (least f k) .head)
-    go true = (refl, refl)
-    go false = (refl, refl)
+use Rattle.node.specs.Rules.{hears, heardOf, nextOf, takes, tookOf, Room, Able}
 
 -- a message heard
 module _ (g : List ℕ) (m n : ℕ → Part) (i h x w : ℕ) where

@@ -13,11 +13,24 @@ use Rattle.node.specs.Rules.{least}
 
 -- it goes by the sums alone
 pub least-same : (f f′ : Part) (k : ℕ) → ((h : ℕ) → h ≤ k → f′ (40 + h) ≡ f (40 + h)) → least f′ k ≡ least f k
+unfolding least
 least-same f f′ zero e = refl
 least-same f f′ (suc k) e = rw (e (suc k) (omega arith), least-same f f′ k (λ h le. e h (omega arith)))
 
+-- where there is a head, the sum is the one in its place
+pub least-at : (f : Part) (k : ℕ) → 1 ≤ least f k .head → least f k .sum ≡ f (40 + least f k .head)
+unfolding least
+least-at f zero pos = absurd (omega arith)
+least-at f (suc k) pos = go (least-at f k) (ltb (f (40 + suc k)) (least f k .sum)) pos
+  where
+    go : (1 ≤ least f k .head → least f k .sum ≡ f (40 + least f k .head)) → (b : Bool) → 1 ≤ cond b (record { sum = f (40 + suc k); head = suc k }) (least f k) .head
+        → cond b (record { sum = f (40 + suc k); head = suc k }) (least f k) .sum ≡ f (40 + cond b (record { sum = f (40 + suc k); head = suc k }) (least f k) .head)
+    go ih true l = refl
+    go ih false l = ih l
+
 -- no sum at all
 pub least-none : (f : Part) (k : ℕ) → ((h : ℕ) → 1 ≤ h → h ≤ k → f (40 + h) ≡ noSum) → least f k .sum ≡ noSum
+unfolding least
 least-none f zero e = refl
 least-none f (suc k) e =
     let ih = least-none f k (λ h pos le. e h pos (omega arith)) in
@@ -30,6 +43,7 @@ module _ (f : Part) (p : Choice) (pos : 1 ≤ p .head) (is : f (40 + p .head) �
   First n = (h : ℕ) → 1 ≤ h → h ≤ n → (p .sum < f (40 + h)) ⊎ ((p .sum ≡ f (40 + h)) × (p .head ≤ h))
 
   above : (n : ℕ) → First n → (k : ℕ) → k < p .head → k ≤ n → p .sum < least f k .sum
+  unfolding least
   above n first zero lt le = sum
   above n first (suc k) lt le = go (above n first k (omega arith) (omega arith)) (ltb (f (40 + suc k)) (least f k .sum)) (first (suc k) (omega arith) le)
     where
@@ -40,6 +54,7 @@ module _ (f : Part) (p : Choice) (pos : 1 ≤ p .head) (is : f (40 + p .head) �
       go ih false w = ih
 
   pub least-is : (n : ℕ) → p .head ≤ n → First n → least f n ≡ p
+  unfolding least
   least-is zero le first = absurd (omega arith)
   least-is (suc n) le first = go (λ l. least-is n l (λ h a b. first h a (omega arith))) (leb (p .head) n) refl
     where

@@ -1,6 +1,6 @@
 -- What the two loops of a node's work keep: the work from here on is the work from where the loop began.
 -- Assumes nothing.
-use mathlib.Core.Path.{_≡_, refl, sym, ap, subst, _∙_}
+use mathlib.Core.Path.{_≡_, refl, sym, ap₂, subst, _∙_}
 use mathlib.Core.Logic.{_≢_}
 use mathlib.Core.List.{List}
 use Prim.Native.Nat.{ℕ, _+_, _≤_, _<_}
@@ -19,7 +19,7 @@ use Rattle.cells.proofs.Meaning.{stopped-phase, stop-site}
 use Rattle.cells.proofs.Caching.{stop-caches}
 use Rattle.node.specs.declared.Heard.{Heard}
 use Rattle.node.specs.declared.Heard.the-variants.{Nothing, Label, Length}
-use Rattle.node.specs.Rules.{least, takes, tookOf, Able}
+use Rattle.node.specs.Rules.{IsChoice, takes, tookOf, Able}
 use Rattle.node.specs.Working.{Ready, Working, Did, Worked}
 use Rattle.node.proofs.Limits.{table-low}
 use Rattle.node.proofs.Choice.{stops, holds}
@@ -70,7 +70,7 @@ going-working p w = (w .0, p .ready (w .0) (w .1))
 
 module _ (g : List ℕ) (la : Laid g) (i : ℕ) where
   -- rules 1 and 2
-  module _ (m : ℕ → Part) (x h lp lmax : ℕ) (ex : x ≡ least (m i) (getD g 0 0) .sum) (eh : h ≡ least (m i) (getD g 0 0) .head) (el : lp ≡ m i 3) (em : lmax ≡ getD g 1 0) where
+  module _ (m : ℕ → Part) (x h lp lmax : ℕ) (is : IsChoice (m i) x h) (el : lp ≡ m i 3) (em : lmax ≡ getD g 1 0) where
     pub chosen : x ≤ lp + lmax → Going g i (to₃ (pick x h)) m m
     chosen le =
         record {
@@ -79,7 +79,7 @@ module _ (g : List ℕ) (la : Laid g) (i : ℕ) where
           held =
               λ ss rd.
               subst (λ (p : Choice). Held (netOf g) i (λ k. item (heard ss (siteOf (m i)) k)) (to₃ p) (nodeOf (m i)))
-              (sym (ap (λ (y : ℕ). pick y h) ex ∙ ap (pick (least (m i) (getD g 0 0) .sum)) eh)) (holds g la ss m i rd (omega arith));
+              (sym (ap₂ pick (is .0) (is .1))) (holds g la ss m i rd (omega arith));
           same = λ ss rd. refl;
           less = λ ss rd. le-refl (left g m i);
         }

@@ -121,15 +121,15 @@ module _ (g : List ℕ) (la : Laid g) (ss : ℕ → List Msg) (m : ℕ → Part)
         rested : turnAt (netOf g) i ss to₁ (siteOf (m i)) ≡ rests (wait (nodeOf (m i)) x)
         rested = turn-is ∙ ap (rule₃ (nodeOf (m i)) p) (next-is false (le-ltb (m i (23 + h)) (m i (6 + h)) le))
 
-        sums : (k : ℕ) → k ≤ netOf g .n → waited (m i) x h (40 + k) ≡ m i (40 + k)
-        sums k l = waited-else (m i) x h (40 + k) (omega (arith, la .accepted .sizes .nodes .1)) (omega arith) (omega arith) (omega arith)
+        sums : (k : ℕ) → k ≤ 16 → waited (m i) x h (40 + k) ≡ m i (40 + k)
+        sums k l = waited-else (m i) x h (40 + k) (omega arith) (omega arith) (omega arith) (omega arith)
 
         done : Did g ss i (m i) (waited (m i) x h)
         done =
             record {
               site = wait-site (m i) x h (table-low g la ss m i rd) (rd .caches .last) ∙ sym (work-rests (netOf g) i ss (siteOf (m i)) (wait (nodeOf (m i)) x) rested);
               caches = wait-caches g i ss (m i) x h (table-low g la ss m i rd) (rd .caches);
-              waits = λ up. waited-head (m i) x h ∙ on .least-head ∙ sym (ap (λ (c : Choice). c .head) (least-same (m i) (waited (m i) x h) (netOf g .n) sums));
+              waits = λ up. waited-head (m i) x h ∙ on .least-head ∙ sym (ap (λ (c : Choice). c .head) (least-same (m i) (waited (m i) x h) 16 sums));
             }
 
     -- a further message, the number w

@@ -13,9 +13,13 @@ use Rattle.node.specs.declared.Heard.{Heard}
 use Rattle.node.specs.declared.Heard.the-variants.{Nothing, Label, Length}
 
 -- Rule 1: the least sum of the heads 1 to k, of equals the lowest head; head 0 where there is none
-abbrev pub least : Part → ℕ → Choice
+unfoldable pub least : Part → ℕ → Choice
 least f zero = record { sum = noSum; head = 0 }
 least f (suc k) = if ltb (f (sumsAt + suc k)) (least f k .sum) then record { sum = f (sumsAt + suc k); head = suc k } else least f k
+
+-- x and h are the sum and the head of rule 1's choice. A head that is no node has no sum, so that all 16 are looked at in any house.
+abbrev pub IsChoice : Part → ℕ → ℕ → Type 0
+IsChoice f x h = (x ≡ least f 16 .sum) × (h ≡ least f 16 .head)
 
 -- Rule 4: node i hears the message w on its arc to h, of sum x
 unfoldable pub hears : List ℕ → ℕ → Part → ℕ → ℕ → ℕ → Part

@@ -31,14 +31,14 @@ abbrev pub Working : List ℕ → (ℕ → Part) → ℕ → Type 0
 Working g m i = (ss : ℕ → List Msg) × Ready g ss m i
 
 -- a started node at rest has the head that it waits for in its place
-abbrev pub Waits : ℕ → Part → Type 0
-Waits n f = f phaseAt ≡ 1 → f waitsAt ≡ least f n .head
+abbrev pub Waits : Part → Type 0
+Waits f = f phaseAt ≡ 1 → f waitsAt ≡ least f 16 .head
 
 -- node i's part f has become f′ by its work
 pub record Did (g : List ℕ) (ss : ℕ → List Msg) (i : ℕ) (f f′ : Part) : Type 0 where
   pub site : siteOf f′ ≡ work (netOf g) i ss (siteOf f)
   pub caches : Caches g i ss f′
-  pub waits : Waits (netOf g .n) f′
+  pub waits : Waits f′
 
 pub record Worked (g : List ℕ) (m : ℕ → Part) (i : ℕ) (n : ℕ → Part) : Type 0 where
   pub there : (j : ℕ) → j ≢ i → n j ≡ m j

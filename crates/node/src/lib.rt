@@ -7,7 +7,7 @@ ghost use Rattle.method.specs.If.{if_then_else_};
 ghost use Rattle.network.specs.Layout.{lenAt, Laid};
 ghost use Rattle.cells.specs.Part.{cells, stateSize};
 ghost use Rattle.cells.specs.Stores.{Stored};
-ghost use Rattle.node.specs.Rules.{least, hears, takes, heardOf, tookOf, Able, Room};
+ghost use Rattle.node.specs.Rules.{IsChoice, hears, takes, heardOf, tookOf, Able, Room};
 ghost use Rattle.node.specs.Working.{Working, Worked};
 use cells::*;
 
@@ -27,22 +27,29 @@ pub fn lesser(c: Chosen, x: usize, h: usize) -> Chosen
     c
 }
 
-// Rule 1: of i's arcs the one with the least sum; of equals, the lowest head.
-pub fn choose(s: &[u16], i: usize, n: usize) -> Chosen
-    requires { ⌜ (i < 17) × (n < 17) × (length (now s) ≡ stateSize) ⌝ }
-    ensures { λ r. ⌜ (r .sum ≡ least (cells (now (s .entry)) i) n .sum) × (r .head ≡ least (cells (now (s .entry)) i) n .head) ⌝ }
+// Rule 1: of i's arcs the one with the least sum; of equals, the lowest head. Heads 1 to 8 and 9 to 16 side by side, since neither half
+// has to wait for the other.
+pub fn choose(s: &[u16], i: usize) -> Chosen
+    requires { ⌜ (i < 17) × (length (now s) ≡ stateSize) ⌝ }
+    ensures { λ r. ⌜ IsChoice (cells (now (s .entry)) i) (r .sum) (r .head) ⌝ }
 {
-    let mut c = Chosen {
+    let mut a = Chosen {
+        sum: NO_SUM,
+        head: 0,
+    };
+    let mut b = Chosen {
         sum: NO_SUM,
         head: 0,
     };
     let mut h: usize = 0;
-    while h < n {
+    while h < 8 {
         h += 1;
         let x = get(s, i, SUMS + h);
-        c = lesser(c, x, h);
+        let y = get(s, i, SUMS + 8 + h);
+        a = lesser(a, x, h);
+        b = lesser(b, y, 8 + h);
     }
-    c
+    lesser(a, b.sum, b.head)
 }
 
 // What came of the chosen arc: nothing further, a label, or a length or the end.
@@ -92,15 +99,14 @@ pub fn take(net: &[u8], s: &mut [u16], i: usize, h: usize, x: usize) -> Heard
     hear(net, s, i, h, x, w)
 }
 
-// The work of node i: choosing and taking, until it must wait or has stopped.
-pub fn work(net: &[u8], s: &mut [u16], i: usize)
-    requires { ⌜ Laid (now net) × Working (now net) (cells (now s)) i × (length (now s) ≡ stateSize) ⌝ }
+// The work of node i from the arc that is first chosen: choosing and taking, until it must wait or has stopped.
+pub fn work_from(net: &[u8], s: &mut [u16], i: usize, first: Chosen)
+    requires { ⌜ Laid (now net) × Working (now net) (cells (now s)) i × IsChoice (cells (now s) i) (first .sum) (first .head) × (length (now s) ≡ stateSize) ⌝ }
     ensures { λ _. ⌜ Worked (now (net .entry)) (cells (now (s .entry))) i (cells (now (s .exit))) ⌝ }
 {
-    let n = net[NODES] as usize;
     let lmax = net[LMAX] as usize;
+    let mut chosen = first;
     'choose: loop {
-        let chosen = choose(&*s, i, n);
         if get(&*s, i, LP) + lmax < chosen.sum {
             stop(s, i);
             break 'choose;
@@ -113,5 +119,15 @@ pub fn work(net: &[u8], s: &mut [u16], i: usize)
                 Heard::Length => break 'take,
             }
         }
+        chosen = choose(&*s, i);
     }
+}
+
+// The work of node i, from the choice of an arc.
+pub fn work(net: &[u8], s: &mut [u16], i: usize)
+    requires { ⌜ Laid (now net) × Working (now net) (cells (now s)) i × (length (now s) ≡ stateSize) ⌝ }
+    ensures { λ _. ⌜ Worked (now (net .entry)) (cells (now (s .entry))) i (cells (now (s .exit))) ⌝ }
+{
+    let first = choose(&*s, i);
+    work_from(net, s, i, first);
 }

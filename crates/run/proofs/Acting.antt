@@ -8,7 +8,7 @@ use Prim.Native.Nat.{ℕ, _+_, _≤_, _<_}
 use native.Mathlib.Omega.{arith}
 use lib.Dec.{ltb, eqb}
 use lib.ListN.{length, getD}
-use borrow.Author.Tests.{lt-ltb, le-ltb, eqb-true, ne-eqb}
+use borrow.Author.Tests.{lt-ltb, le-ltb, eqb-true, eqb-false, ne-eqb}
 use Rattle.method.specs.Network.{IsNode}
 use Rattle.method.specs.Message.{Msg}
 use Rattle.method.specs.Rules.{Phase, unstarted, started, stopped, Choice}
@@ -24,8 +24,9 @@ use Rattle.cells.proofs.Lists.{sent-length, table-length}
 use Rattle.cells.proofs.Stored.{at}
 use Rattle.cells.proofs.Meaning.{counted-else, row-at, delivered-site, begin-site}
 use Rattle.cells.proofs.Caching.{begin-caches, hand-caches}
+use Rattle.node.specs.Rules.{least, IsChoice}
 use Rattle.node.specs.Working.{Working, Waits, Worked}
-use Rattle.node.proofs.Least.{least-same}
+use Rattle.node.proofs.Least.{least-same, least-at}
 use Rattle.run.specs.Resting.{Resting, Acted}
 use Rattle.run.proofs.Rested.{put-state, table-low, i-low, ready, still}
 
@@ -137,10 +138,10 @@ module _ (g : List ℕ) (la : Laid g) (m : ℕ → Part) (re : Resting g m) (i :
       pub same-place : (o : ℕ) → o < 6 → m₁ i o ≡ m i o
       same-place o l = at st o ∙ counted-else (m i) (6 + h) o (omega arith)
 
-      waits-same : Waits (getD g 0 0) (m₁ i)
+      waits-same : Waits (m₁ i)
       waits-same up =
           same-place 5 (omega arith) ∙ re .waits i (sym (same-place 0 (omega arith)) ∙ up)
-          ∙ sym (ap (λ (c : Choice). c .head) (least-same (m i) (m₁ i) (getD g 0 0) (λ k l. at st (40 + k) ∙ counted-else (m i) (6 + h) (40 + k) (omega (arith, h-low)))))
+          ∙ sym (ap (λ (c : Choice). c .head) (least-same (m i) (m₁ i) 16 (λ k l. at st (40 + k) ∙ counted-else (m i) (6 + h) (40 + k) (omega (arith, h-low)))))
 
       -- the message is kept, and nothing else happens
       kept-there : worksOn (phaseOf (m i 0)) (netOf g) i ss (handed (siteOf (m i)) h) ≡ handed (siteOf (m i)) h → Delivers m₁ taken
@@ -169,15 +170,28 @@ module _ (g : List ℕ) (la : Laid g) (m : ℕ → Part) (re : Resting g m) (i :
         awake : phaseOf (m i 0) ≡ started
         awake = ap phaseOf up
 
-        pub waits-elsewhere : m i 5 ≢ h → Delivers m₁ taken
-        waits-elsewhere ne =
+        waits-on : m i 5 ≢ h → Delivers m₁ taken
+        waits-on ne =
             kept-there (ap (λ (ph : Phase). worksOn ph (netOf g) i ss (handed (siteOf (m i)) h)) awake
             ∙ still g la m re i node awake h (λ q. ne (re .waits i up ∙ q)))
 
         pub delivery-working : Working g m₁ i
         delivery-working = working m₁ (counted (m i) (6 + h)) st (handed (siteOf (m i)) h) handed-is ok awake handed-caches
 
+        -- the arc that it waits for is the one that rule 1 chooses
+        pub chosen-again : m i 5 ≡ h → (x : ℕ) → x ≡ m₁ i (40 + h) → IsChoice (m₁ i) x h
+        chosen-again w x e =
+            let eh : h ≡ least (m₁ i) 16 .head = sym w ∙ sym (same-place 5 (omega arith)) ∙ waits-same (same-place 0 (omega arith) ∙ up) in
+            (e ∙ ap (λ (k : ℕ). m₁ i (40 + k)) eh ∙ sym (least-at (m₁ i) 16 (omega (arith, eh, head .0))), eh)
+
         pub works-on : (n : ℕ → Part) → Worked g m₁ i n → Delivers n taken
         works-on n w =
             delivers n (subst (λ (ph : Phase). Acted g m i n taken (record { kind = taken; state = put (stateOf m) i (worksOn ph (netOf g) i ss (handed (siteOf (m i)) h)) })) (sym awake)
             (worked m₁ (counted (m i) (6 + h)) st (handed (siteOf (m i)) h) handed-is ok awake handed-caches n w))
+
+      pub waits-elsewhere : m i 5 ≢ h → Delivers m₁ taken
+      waits-elsewhere ne = go (eqb (m i 0) 1) refl
+        where
+          go : (b : Bool) → eqb (m i 0) 1 ≡ b → Delivers m₁ taken
+          go true e = waits-on (eqb-true (m i 0) 1 e) ne
+          go false e = no-work (eqb-false (m i 0) 1 e)

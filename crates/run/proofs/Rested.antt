@@ -72,7 +72,7 @@ module _ (g : List ℕ) (la : Laid g) (m : ℕ → Part) (re : Resting g m) wher
         }
 
     -- a message on an arc that node i does not wait for changes nothing else
-    pub still : siteOf (m i) .node .phase ≡ started → (h : ℕ) → least (m i) (getD g 0 0) .head ≢ h
+    pub still : siteOf (m i) .node .phase ≡ started → (h : ℕ) → least (m i) 16 .head ≢ h
         → work (netOf g) i (sents (stateOf m)) (handed (siteOf (m i)) h) ≡ handed (siteOf (m i)) h
     unfolding turnAt turn
     still up h other = work-rests (netOf g) i ss (handed s h) (s .node) (rested (re .inv i .waits up))

@@ -113,9 +113,9 @@ module _ (g : List ℕ) (la : Laid g) (m : ℕ → Part) (re : Resting g m) (b :
           (grown-caches g j (sents (stateOf m)) (sents (stateOf n)) (m j) grows
           (λ h. omega (arith, re .inv j .site .taken-le h, re .inv j .site .delivered-le h)) (re .caches j lt))
 
-      waits : (j : ℕ) (t : Bool) → eqb j i ≡ t → Waits (netOf g .n) (n j)
-      waits j true e = subst (λ (x : ℕ). Waits (netOf g .n) (n x)) (sym (eqb-true j i e)) (a .waits)
-      waits j false e = subst (λ (f : Part). Waits (netOf g .n) f) (sym (a .there j (eqb-false j i e))) (re .waits j)
+      waits : (j : ℕ) (t : Bool) → eqb j i ≡ t → Waits (n j)
+      waits j true e = subst (λ (x : ℕ). Waits (n x)) (sym (eqb-true j i e)) (a .waits)
+      waits j false e = subst (λ (f : Part). Waits f) (sym (a .there j (eqb-false j i e))) (re .waits j)
 
   pub nothing-did : names (netOf g) b ≡ nothing → Did g m unknown (step (netOf g) (stateOf m) b)
   unfolding step

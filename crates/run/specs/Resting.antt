@@ -15,7 +15,7 @@ use Rattle.node.specs.Working.{Waits}
 pub record Resting (g : List ℕ) (m : ℕ → Part) : Type 0 where
   pub inv : Inv (netOf g) (stateOf m)
   pub caches : (j : ℕ) → j < 17 → Caches g j (sents (stateOf m)) (m j)
-  pub waits : (j : ℕ) → Waits (netOf g .n) (m j)
+  pub waits : (j : ℕ) → Waits (m j)
 
 -- the method's step w was done, and of the parts only node i's has changed
 pub record Acted (g : List ℕ) (m : ℕ → Part) (i : ℕ) (n : ℕ → Part) (k : Kind) (w : Stepped) : Type 0 where
@@ -24,7 +24,7 @@ pub record Acted (g : List ℕ) (m : ℕ → Part) (i : ℕ) (n : ℕ → Part) 
   pub there : (j : ℕ) → j ≢ i → n j ≡ m j
   pub taken-le : (h : ℕ) → siteOf (n i) .taken h ≤ length (sents (stateOf m) h)
   pub caches : Caches g i (sents (stateOf m)) (n i)
-  pub waits : Waits (netOf g .n) (n i)
+  pub waits : Waits (n i)
 
 pub record Did (g : List ℕ) (n : ℕ → Part) (k : Kind) (w : Stepped) : Type 0 where
   pub kind : k ≡ w .kind

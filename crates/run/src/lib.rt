@@ -9,7 +9,9 @@ ghost use Rattle.cells.specs.Part.{cells, stateSize, stateOf};
 ghost use Rattle.run.specs.Resting.{Resting, Acted, Did};
 ghost use Rattle.run.specs.Ran.{kindOf, tallied, Ran};
 use cells::*;
+use node::Chosen;
 use node::work;
+use node::work_from;
 
 // What a step counts as.
 pub enum Kind {
@@ -32,7 +34,8 @@ pub fn start(net: &[u8], s: &mut [u16], i: usize) -> Kind
     Kind::Taken
 }
 
-// The arc from i to h is to hand over its oldest undelivered message. A node that waits for another arc would choose that again, and wait.
+// The arc from i to h is to hand over its oldest undelivered message. A node chooses again the arc that it waits for: another, and it waits
+// still; or this one, and it works on from there.
 pub fn deliver(net: &[u8], s: &mut [u16], i: usize, h: usize) -> Kind
     requires { ⌜ Laid (now net) × Resting (now net) (cells (now s)) × IsNode (getD (now net) 0 0) i × IsNode (getD (now net) 0 0) h × (length (now s) ≡ stateSize) ⌝ }
     ensures { λ r. ⌜ Acted (now (net .entry)) (cells (now (s .entry))) i (cells (now (s .exit))) (kindOf r)
@@ -43,13 +46,14 @@ pub fn deliver(net: &[u8], s: &mut [u16], i: usize, h: usize) -> Kind
         return Kind::Idle;
     }
     count(s, i, DELIVERED + h);
-    if get(&*s, i, PHASE) != 1 {
-        return Kind::Taken;
-    }
     if get(&*s, i, WAITS) != h {
         return Kind::Taken;
     }
-    work(net, s, i);
+    if get(&*s, i, PHASE) != 1 {
+        return Kind::Taken;
+    }
+    let x = get(&*s, i, SUMS + h);
+    work_from(net, s, i, Chosen { sum: x, head: h });
     Kind::Taken
 }
 

@@ -3,7 +3,7 @@
 use mathlib.Core.Path.{_≡_, refl, sym, ap, subst, _∙_}
 use mathlib.Core.Logic.{_⊎_, inl, inr, _≢_}
 use mathlib.Core.List.{List, [], _∷_}
-use Prim.Native.Nat.{ℕ, zero, suc, _+_, _/_, _%_, _≤_, _<_}
+use Prim.Native.Nat.{ℕ, zero, suc, _+_, _*_, _/_, _%_, _≤_, _<_}
 use native.Mathlib.Omega.{arith}
 use lib.ListN.{length}
 use Rattle.bits.specs.Bits.{bitsOf}
@@ -14,22 +14,29 @@ use Rattle.method.specs.Steps.{steps}
 use Rattle.method.specs.Entries.{Entry, unknown, unreachable, known}
 use Rattle.method.specs.Marks.{distanceOf, hopOf}
 use Rattle.network.specs.Refusal.{_else_}
-use Rattle.network.specs.Bytes.{nodes, lmax, count, arcs, network}
+use Rattle.network.specs.Bytes.{nodes, lmax, count, arcs, network, size}
+use Rattle.network.specs.ArcList.{listRefusal}
+use Rattle.network.specs.Pack.{packAnswer}
+use Rattle.network.proofs.Laws.{checks}
 use Rattle.network.proofs.Refused.{second}
 use Rattle.table.specs.File.{one, Head}
-use Rattle.table.specs.Reader.{headAt, recordAt, Read, refusal, says, entryRead}
+use Rattle.table.specs.Reader.{headAt, recordAt, Read, refusal, says, reading, entryRead}
+use Rattle.table.specs.Calls.{entriesOutcome}
+use Rattle.table.specs.declared.Outcome.{Outcome}
+use Rattle.table.specs.declared.Outcome.the-variants.{Written, Refused}
 use Rattle.table.proofs.Small.{hop-small}
 use Rattle.table.proofs.Proved.{at-most-27}
 use Rattle.route.specs.Route.{route}
 use Rattle.route.proofs.Laws.{laws as route-laws}
-use Rattle.calls.specs.Answers.{values, readAnswer}
+use Rattle.calls.specs.Answers.{values, readAnswer, outcomeAnswer}
 use Rattle.calls.specs.Calls.{stateAfter, entryAfter, entryRefusal, entryAnswer, passed, nodesPassed, routeAnswer, fileAfter, writeRefusal, writeAnswer}
 use Rattle.zaqfinell.specs.Requirement2.{Says}
 use Rattle.zaqfinell.specs.Apart.{refusalIn, hopIn, distanceIn, writtenIn, Shows, Apart}
 use Rattle.zaqfinell.proofs.Rows.{by-entry, by-write}
-use Rattle.zaqfinell.specs.Requirement1.{readRefusal}
-use Rattle.zaqfinell.proofs.FileRows.{by-read}
+use Rattle.zaqfinell.specs.Requirement1.{readRefusal, outcomeRefusal}
+use Rattle.zaqfinell.proofs.FileRows.{by-read, by-table}
 use Rattle.zaqfinell.proofs.Asked.{Asked, asked, answered, wrote}
+use Rattle.zaqfinell.proofs.Requirement1.{requirement1}
 use Rattle.zaqfinell.proofs.Requirement2.{requirement2}
 use Rattle.zaqfinell.specs.Rows.{_given_else_, none, arcRows, byteRows, recordRows, fileRows}
 
@@ -156,6 +163,36 @@ read-shows s y e is =
     let small = hop-small s y e is in
     subst (λ (x : Read). Shows (readAnswer x) e) (sym is) (record { hop = second-byte _ _ small; distance = upper-half _ _ small })
 
+small-table : (s room : List ℕ) → outcomeRefusal (entriesOutcome (reading one s) room) < 256
+unfolding Small
+small-table s room = small-file s _ (small-given 13 _ _ (omega arith) small-none) _ (by-table s room .told)
+
+table-refusal : (s room : List ℕ) → refusalIn (outcomeAnswer (entriesOutcome (reading one s) room)) ≡ outcomeRefusal (entriesOutcome (reading one s) room)
+table-refusal s room = go (entriesOutcome (reading one s) room) (small-table s room)
+  where
+    go : (x : Outcome) → outcomeRefusal x < 256 → refusalIn (outcomeAnswer x) ≡ outcomeRefusal x
+    go (Refused r) lt = omega arith
+    go (Written k) lt = low 0 k 0 (omega arith)
+
+-- a network's bytes from an arc list: at most 363
+small-list : (n lmax : ℕ) (ar : List Arc) → listRefusal n lmax ar < 256
+unfolding Small
+small-list n lmax ar =
+    small-given 19 _ _ (omega arith) (small-given 3 _ _ (omega arith) (small-given 4 _ _ (omega arith) (small-arcs n lmax [] ar _ small-none)))
+    _ (requirement1 .list n lmax ar .told)
+
+list-refusal : (n lmax : ℕ) (ar : List Arc) → refusalIn (packAnswer n lmax ar) ≡ listRefusal n lmax ar
+list-refusal n lmax ar = go (listRefusal n lmax ar) (small-list n lmax ar)
+  where
+    go : (r : ℕ) → r < 256 → refusalIn (r else 256 * size (length ar)) ≡ r
+    go zero lt = omega arith
+    go (suc r) lt = omega arith
+
+list-shows : (n lmax : ℕ) (ar : List Arc) → listRefusal n lmax ar ≡ 0 → writtenIn (packAnswer n lmax ar) ≡ size (length ar)
+list-shows n lmax ar e =
+    let few = checks .list-accepted n lmax ar e .sizes .arcs in
+    ap writtenIn (second (listRefusal n lmax ar) (256 * size (length ar)) e) ∙ (omega arith)
+
 pub apart : Apart
 apart =
     record {
@@ -167,4 +204,7 @@ apart =
       write-shows = write-shows;
       read-refusal = read-refusal;
       read-shows = read-shows;
+      table-refusal = table-refusal;
+      list-refusal = list-refusal;
+      list-shows = list-shows;
     }

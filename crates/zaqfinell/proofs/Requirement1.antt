@@ -42,5 +42,6 @@ requirement1 =
       run-kept = λ net bs room isOne. (kept _ room _ isOne, kept _ room _ isOne);
       route-kept = λ net bs i y room isOne. kept _ room _ isOne;
       write-kept = λ net bs i room isOne. kept _ room _ isOne;
+      list-kept = λ n lmax ar room isOne. kept _ room _ isOne;
       table-kept = λ s room isOne. table-kept (reading one s) room isOne;
     }

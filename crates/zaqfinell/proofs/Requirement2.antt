@@ -21,6 +21,7 @@ use Rattle.method.proofs.Proved.{laws as method-laws}
 use Rattle.method.proofs.Said.{unreachable-no-chain}
 use Rattle.network.specs.Bytes.{network}
 use Rattle.network.specs.Room.{unless, begins}
+use Rattle.network.proofs.Laws.{checks}
 use Rattle.entries.specs.Read.{atEnd, isStopped, stoppedTo}
 use Rattle.table.specs.File.{one}
 use Rattle.table.specs.Reader.{entryRead}
@@ -135,4 +136,5 @@ requirement2 =
       progress = progress;
       total = λ net bs. method-laws (network net) .g-total (steps bs) ∙ length-map bs byteStep;
       same = same;
+      both-entries = checks .list-as-bytes;
     }

@@ -15,5 +15,6 @@ unique =
       run = λ net bs counts entries r q c d e f p u. (p .answer ∙ sym (u .answer), p .counted ∙ sym (u .counted), p .left ∙ sym (u .left));
       entry = λ net bs i y r q p t. p ∙ sym t;
       route = λ net bs i y room r q s t p u. (p .answer ∙ sym (u .answer), p .left ∙ sym (u .left));
+      pack = λ n lmax arcs room r q s t p u. (p .0 ∙ sym (u .0), p .1 ∙ sym (u .1));
       house = λ input room r q s t p u. let both = text-laws .one-answer room (text input) s t r q p u in (both .1, both .0);
     }

@@ -5,13 +5,18 @@ use mathlib.Core.Path.{_≡_}
 use mathlib.Core.List.{List}
 use Prim.Native.Nat.{ℕ, _/_, _%_}
 use lib.ListN.{length}
+use Rattle.method.specs.Network.{Arc}
 use Rattle.method.specs.Entries.{Entry}
 use Rattle.method.specs.Marks.{distanceOf, hopOf}
 use Rattle.table.specs.File.{one}
-use Rattle.table.specs.Reader.{says, entryRead}
-use Rattle.calls.specs.Answers.{readAnswer}
+use Rattle.network.specs.Bytes.{size}
+use Rattle.network.specs.ArcList.{listRefusal}
+use Rattle.network.specs.Pack.{packAnswer}
+use Rattle.table.specs.Reader.{says, reading, entryRead}
+use Rattle.table.specs.Calls.{entriesOutcome}
+use Rattle.calls.specs.Answers.{readAnswer, outcomeAnswer}
 use Rattle.calls.specs.Calls.{entryAfter, entryRefusal, entryAnswer, nodesPassed, routeAnswer, fileAfter, writeRefusal, writeAnswer}
-use Rattle.zaqfinell.specs.Requirement1.{readRefusal}
+use Rattle.zaqfinell.specs.Requirement1.{readRefusal, outcomeRefusal}
 
 -- bits 0 to 7
 abbrev pub refusalIn : ℕ → ℕ
@@ -45,3 +50,6 @@ pub record Apart : Type 0 where
       → writtenIn (writeAnswer net bs i room) ≡ length (fileAfter net bs i)
   pub read-refusal : (file : List ℕ) (y : ℕ) → refusalIn (readAnswer (entryRead one file y)) ≡ readRefusal (entryRead one file y)
   pub read-shows : (file : List ℕ) (y : ℕ) (e : Entry) → entryRead one file y ≡ says e → Shows (readAnswer (entryRead one file y)) e
+  pub table-refusal : (file room : List ℕ) → refusalIn (outcomeAnswer (entriesOutcome (reading one file) room)) ≡ outcomeRefusal (entriesOutcome (reading one file) room)
+  pub list-refusal : (n lmax : ℕ) (ar : List Arc) → refusalIn (packAnswer n lmax ar) ≡ listRefusal n lmax ar
+  pub list-shows : (n lmax : ℕ) (ar : List Arc) → listRefusal n lmax ar ≡ 0 → writtenIn (packAnswer n lmax ar) ≡ size (length ar)

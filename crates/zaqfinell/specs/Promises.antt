@@ -2,9 +2,12 @@
 -- `ensures` say just this.
 -- Assumes nothing.
 use mathlib.Core.Path.{_≡_}
-use mathlib.Core.List.{List}
+use mathlib.Core.List.{List, map}
 use Prim.Native.Nat.{ℕ}
 use Rattle.network.specs.Bytes.{refusal}
+use Rattle.network.specs.ArcList.{given}
+use Rattle.network.specs.Pack.{packAnswer, packRoom}
+use Rattle.network.specs.declared.Arc.{Arc}
 use Rattle.text.specs.Room.{Front}
 use Rattle.table.specs.File.{one}
 use Rattle.table.specs.Reader.{reading, entryRead}
@@ -46,6 +49,10 @@ EntryPromise net bs i y r = r ≡ entryAnswer net bs i y
 pub record RoutePromise (net bs : List ℕ) (i y : ℕ) (room : List ℕ) (r : ℕ) (room′ : List ℕ) : Type 0 where
   pub answer : r ≡ routeAnswer net bs i y
   pub left : room′ ≡ routeRoom net bs i y room
+
+-- zaq_pack_network
+abbrev pub PackPromise : ℕ → ℕ → List Arc → List ℕ → ℕ → List ℕ → Type 0
+PackPromise n lmax arcs room r room′ = (r ≡ packAnswer n lmax (map given arcs)) × (room′ ≡ packRoom n lmax (map given arcs) room)
 
 -- zaq_house_table: the room begins with the input's text, its other bytes stay, and the answer is the text's length
 abbrev pub HousePromise : List ℕ → List ℕ → ℕ → List ℕ → Type 0

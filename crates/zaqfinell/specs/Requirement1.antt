@@ -9,6 +9,7 @@ use lib.ListN.{length}
 use Rattle.method.specs.Network.{Arc}
 use Rattle.network.specs.Bytes.{refusal}
 use Rattle.network.specs.ArcList.{listRefusal}
+use Rattle.network.specs.Pack.{packRoom}
 use Rattle.table.specs.File.{one}
 use Rattle.table.specs.Reader.{Read, reading, entryRead}
 use Rattle.table.specs.Reader.{refusal as refusedRead, says}
@@ -44,4 +45,5 @@ pub record Requirement1 : Type 0 where
   pub run-kept : (net bs room : List ℕ) → runRefusal net bs ≢ 0 → (countsRoom net bs room ≡ room) × (entriesRoom net bs room ≡ room)
   pub route-kept : (net bs : List ℕ) (i y : ℕ) (room : List ℕ) → entryRefusal net bs i y ≢ 0 → routeRoom net bs i y room ≡ room
   pub write-kept : (net bs : List ℕ) (i : ℕ) (room : List ℕ) → writeRefusal net bs i (length room) ≢ 0 → writeRoom net bs i room ≡ room
+  pub list-kept : (n lmax : ℕ) (ar : List Arc) (room : List ℕ) → listRefusal n lmax ar ≢ 0 → packRoom n lmax ar room ≡ room
   pub table-kept : (s room : List ℕ) → outcomeRefusal (entriesOutcome (reading one s) room) ≢ 0 → tableRoom (reading one s) room ≡ room

@@ -7,11 +7,12 @@ use mathlib.Core.Logic.{_≢_, _↔_}
 use mathlib.Core.List.{List, [], _∷_, _++_}
 use Prim.Native.Nat.{ℕ, suc, _+_, _≤_, _<_}
 use lib.ListN.{length, take}
-use Rattle.method.specs.Network.{Net, IsNode}
+use Rattle.method.specs.Network.{Arc, Net, house, IsNode}
 use Rattle.method.specs.Distance.{NoChain, Right}
 use Rattle.method.specs.Steps.{Counts, steps, counts}
 use Rattle.method.specs.Entries.{Entry, unknown, unreachable, known}
-use Rattle.network.specs.Bytes.{network}
+use Rattle.network.specs.Bytes.{network, refusal, bytesOf}
+use Rattle.network.specs.ArcList.{listRefusal}
 use Rattle.entries.specs.Read.{stoppedTo}
 use Rattle.table.specs.File.{one}
 use Rattle.table.specs.Reader.{entryRead}
@@ -46,3 +47,5 @@ pub record Requirement2 : Type 0 where
   -- an entry read from the file that was written is the one asked for after the same steps, the same number
   pub same : (net bs : List ℕ) (i : ℕ) (room : List ℕ) → writeRefusal net bs i (length room) ≡ 0 → (y : ℕ) → IsNode (nodesOf net) y
       → readAnswer (entryRead one (take (length (fileAfter net bs i)) (writeRoom net bs i room)) y) ≡ entryAnswer net bs i y
+  -- "Both lead to the same run": the bytes made of an arc list are not refused, and mean that list's network
+  pub both-entries : (n lmax : ℕ) (ar : List Arc) → listRefusal n lmax ar ≡ 0 → (refusal (bytesOf n lmax ar) ≡ 0) × (network (bytesOf n lmax ar) ≡ house n lmax ar)

@@ -3,7 +3,8 @@
 use mathlib.Core.Path.{_≡_}
 use mathlib.Core.List.{List}
 use Prim.Native.Nat.{ℕ}
-use Rattle.zaqfinell.specs.Promises.{CheckPromise, WritePromise, ReadPromise, TablePromise, RunPromise, EntryPromise, RoutePromise, HousePromise}
+use Rattle.network.specs.declared.Arc.{Arc}
+use Rattle.zaqfinell.specs.Promises.{CheckPromise, WritePromise, ReadPromise, TablePromise, RunPromise, EntryPromise, RoutePromise, PackPromise, HousePromise}
 
 -- of all pairs of an answer and what a room holds, at most one is allowed
 abbrev pub AtMostOne : (ℕ → List ℕ → Type 0) → Type 0
@@ -22,4 +23,5 @@ pub record Unique : Type 0 where
       → RunPromise net bs counts entries r c e → RunPromise net bs counts entries q d f → (r ≡ q) × (c ≡ d) × (e ≡ f)
   pub entry : (net bs : List ℕ) (i y : ℕ) → AtMostOneAnswer (EntryPromise net bs i y)
   pub route : (net bs : List ℕ) (i y : ℕ) (room : List ℕ) → AtMostOne (RoutePromise net bs i y room)
+  pub pack : (n lmax : ℕ) (arcs : List Arc) (room : List ℕ) → AtMostOne (PackPromise n lmax arcs room)
   pub house : (input room : List ℕ) → AtMostOne (HousePromise input room)

@@ -1,5 +1,6 @@
 // The calls that the firmware links: numbers and byte buffers in, one number out. What each promises is in specs/Promises.
-ghost use Rattle.zaqfinell.specs.Promises.{CheckPromise, WritePromise, ReadPromise, TablePromise, RunPromise, EntryPromise, RoutePromise, HousePromise};
+ghost use Rattle.zaqfinell.specs.Promises.{CheckPromise, WritePromise, ReadPromise, TablePromise, RunPromise, EntryPromise, RoutePromise, PackPromise, HousePromise};
+use network::Arc;
 
 // The refusal of a network's bytes, or 0.
 #[no_mangle]
@@ -66,6 +67,22 @@ pub extern "C" fn zaq_route(
     ensures { λ r. ⌜ RoutePromise (now (net .entry)) (now (steps .entry)) node target (now (room .entry)) r (now (room .exit)) ⌝ }
 {
     ask::route(net, steps, node, target, room)
+}
+
+// The bytes of a network that is handed over as n, LMAX and its arcs, or the refusal. Each arc's three numbers go to `add`.
+#[no_mangle]
+pub extern "C" fn zaq_pack_network(n: u8, lmax: u8, arcs: &[Arc], room: &mut [u8; 363]) -> u32
+    ensures { λ r. ⌜ PackPromise n lmax (now (arcs .entry)) (now (room .entry)) r (now (room .exit)) ⌝ }
+{
+    let mut f = network::size(n, lmax, arcs.len());
+    let mut laid = network::begin(n, lmax, arcs.len());
+    let mut k: usize = 0;
+    while k < arcs.len() {
+        let a = arcs[k];
+        f = network::add(&mut laid, f, n, lmax, k, a.tail, a.head, a.len);
+        k += 1;
+    }
+    network::write_bytes(f, laid, room)
 }
 
 // What "House table" writes for an input, at the beginning of the room; its length.

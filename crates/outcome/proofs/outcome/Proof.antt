@@ -4,7 +4,7 @@ use native.Mathlib.Omega.{arith}
 use borrow.Author.Needs.{needs}
 use Rattle.network.specs.Bytes.{network, refusal}
 use Rattle.network.specs.Layout.{netOf, Laid}
-use Rattle.network.proofs.Laws.{lay-laid}
+use Rattle.network.proofs.Laws.{checks}
 use Rattle.outcome.proofs.Answered.{refused-answers, run-answers}
 use Rattle.outcome.proofs.outcome.Statement.{statement}
 use Rattle.outcome.proofs.outcome.Tie as tie
@@ -15,7 +15,7 @@ none c = sym (c .before .lay .ensures .0) ∙ c .if1 .left
 
 -- so it is laid out
 laid : (c : tie.Else1) → Laid (c .before .lay .last .1 .0) × (netOf (c .before .lay .last .1 .0) ≡ network (c .before .before .before .before .before .args .net .now))
-laid c = lay-laid _ _ (none c) (c .before .lay .ensures .1 (c .if1 .left))
+laid c = checks .bytes-laid _ _ (none c) (c .before .lay .ensures .1 (c .if1 .left))
 
 lay-requires : tie.Need-lay-requires
 lay-requires c κs = search needs

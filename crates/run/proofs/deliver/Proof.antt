@@ -1,6 +1,6 @@
 -- `deliver`: idle, kept, or worked on.
 use Rattle.run.proofs.Rested.{i-low, sent-low}
-use Rattle.run.proofs.Acting.{nothing-there, same-place, no-work, waits-elsewhere, delivery-working, works-on}
+use Rattle.run.proofs.Acting.{nothing-there, same-place, no-work, waits-elsewhere, delivery-working, chosen-again, works-on}
 use Rattle.cells.specs.Part.{cells}
 use mathlib.Core.Path.{_≡_}
 use Prim.Native.Nat.{_+_, _<_}
@@ -70,12 +70,14 @@ returns-2 c =
     let p = c .before .before .before .before .before .before .before .before .before .before .before .before .before .before .pre in
     let get = c .before .before .before .before .before .before .before .before .before .before .get in
     let get2 = c .before .before .before .before .before .before .before .before .get2 in
+    let if1 = c .before .before .before .before .before .before .before .if1 in
     let count = c .before .before .before .before .before .count in
+    let get3 = c .before .get3 in
     let m = cells (a .s .now) in
     let n = cells (count .last .0) in
-    let lt : m (a .i) (6 + a .h) < m (a .h) 1 = omega (arith, get .ensures .0, get2 .ensures .0) in
-    no-work (a .net .now) (p .0) m (p .1) (a .i) (p .2) (a .h) (p .3) lt n (count .ensures)
-    (omega (arith, c .before .get3 .ensures .0, same-place (a .net .now) (p .0) m (p .1) (a .i) (p .2) (a .h) (p .3) lt n (count .ensures) 0 (omega arith)))
+    let lt : m (a .i) (6 + a .h) < m (a .h) 1 = omega (arith, get .ensures .0, get2 .ensures .0, if1 .left) in
+    waits-elsewhere (a .net .now) (p .0) m (p .1) (a .i) (p .2) (a .h) (p .3) lt n (count .ensures)
+    (omega (arith, get3 .ensures .0, same-place (a .net .now) (p .0) m (p .1) (a .i) (p .2) (a .h) (p .3) lt n (count .ensures) 5 (omega arith)))
 
 get-requires-4 : tie.Need-get-requires-4
 get-requires-4 c κs =
@@ -92,51 +94,63 @@ returns-3 c =
     let p = c .before .before .before .before .before .before .before .before .before .before .before .before .before .before .before .before .before .pre in
     let get = c .before .before .before .before .before .before .before .before .before .before .before .before .before .get in
     let get2 = c .before .before .before .before .before .before .before .before .before .before .before .get2 in
+    let if1 = c .before .before .before .before .before .before .before .before .before .before .if1 in
     let count = c .before .before .before .before .before .before .before .before .count in
-    let get3 = c .before .before .before .before .get3 in
-    let if2 = c .before .before .before .if2 in
+    let get4 = c .before .get4 in
     let m = cells (a .s .now) in
     let n = cells (count .last .0) in
-    let lt : m (a .i) (6 + a .h) < m (a .h) 1 = omega (arith, get .ensures .0, get2 .ensures .0) in
-    let up : m (a .i) 0 ≡ 1 =
-    omega (arith, get3 .ensures .0, if2 .left, same-place (a .net .now) (p .0) m (p .1) (a .i) (p .2) (a .h) (p .3) lt n (count .ensures) 0 (omega arith)) in
-    waits-elsewhere (a .net .now) (p .0) m (p .1) (a .i) (p .2) (a .h) (p .3) lt n (count .ensures) up
-    (omega (arith, c .before .get4 .ensures .0, same-place (a .net .now) (p .0) m (p .1) (a .i) (p .2) (a .h) (p .3) lt n (count .ensures) 5 (omega arith)))
+    let lt : m (a .i) (6 + a .h) < m (a .h) 1 = omega (arith, get .ensures .0, get2 .ensures .0, if1 .left) in
+    no-work (a .net .now) (p .0) m (p .1) (a .i) (p .2) (a .h) (p .3) lt n (count .ensures)
+    (omega (arith, get4 .ensures .0, same-place (a .net .now) (p .0) m (p .1) (a .i) (p .2) (a .h) (p .3) lt n (count .ensures) 0 (omega arith)))
 
-work-requires : tie.Need-work-requires
-work-requires c κs =
+add-get-2 : tie.Need-add-get-2
+add-get-2 c = search needs
+
+get-requires-5 : tie.Need-get-requires-5
+get-requires-5 c κs =
     let a = c .before .before .before .before .before .before .before .before .before .before .before .before .before .before .before .before .before .before .args in
     let p = c .before .before .before .before .before .before .before .before .before .before .before .before .before .before .before .before .before .before .pre in
-    let get = c .before .before .before .before .before .before .before .before .before .before .before .before .before .before .get in
-    let get2 = c .before .before .before .before .before .before .before .before .before .before .before .before .get2 in
-    let count = c .before .before .before .before .before .before .before .before .before .count in
-    let get3 = c .before .before .before .before .before .get3 in
-    let if2 = c .before .before .before .before .if2 in
+    let l = i-low (a .net .now) (p .0) (cells (a .s .now)) (p .1) (a .h) (p .3) in
+    (i-low (a .net .now) (p .0) (cells (a .s .now)) (p .1) (a .i) (p .2), omega arith, search needs)
+
+work-from-requires : tie.Need-work-from-requires
+work-from-requires c κs =
+    let a = c .before .before .before .before .before .before .before .before .before .before .before .before .before .before .before .before .before .before .before .before .args in
+    let p = c .before .before .before .before .before .before .before .before .before .before .before .before .before .before .before .before .before .before .before .before .pre in
+    let get = c .before .before .before .before .before .before .before .before .before .before .before .before .before .before .before .before .get in
+    let get2 = c .before .before .before .before .before .before .before .before .before .before .before .before .before .before .get2 in
+    let if1 = c .before .before .before .before .before .before .before .before .before .before .before .before .before .if1 in
+    let count = c .before .before .before .before .before .before .before .before .before .before .before .count in
+    let get3 = c .before .before .before .before .before .before .before .get3 in
+    let if2 = c .before .before .before .before .before .before .if2 in
+    let get4 = c .before .before .before .before .get4 in
+    let if3 = c .before .before .before .if3 in
+    let get5 = c .before .get5 in
     let m = cells (a .s .now) in
     let n = cells (count .last .0) in
-    let lt : m (a .i) (6 + a .h) < m (a .h) 1 = omega (arith, get .ensures .0, get2 .ensures .0) in
-    let up : m (a .i) 0 ≡ 1 =
-    omega (arith, get3 .ensures .0, if2 .left, same-place (a .net .now) (p .0) m (p .1) (a .i) (p .2) (a .h) (p .3) lt n (count .ensures) 0 (omega arith)) in
-    (p .0, delivery-working (a .net .now) (p .0) m (p .1) (a .i) (p .2) (a .h) (p .3) lt n (count .ensures) up, search needs)
+    let lt : m (a .i) (6 + a .h) < m (a .h) 1 = omega (arith, get .ensures .0, get2 .ensures .0, if1 .left) in
+    let up : m (a .i) 0 ≡ 1 = omega (arith, get4 .ensures .0, if3 .left, same-place (a .net .now) (p .0) m (p .1) (a .i) (p .2) (a .h) (p .3) lt n (count .ensures) 0 (omega arith)) in
+    let w : m (a .i) 5 ≡ a .h = omega (arith, get3 .ensures .0, if2 .left, same-place (a .net .now) (p .0) m (p .1) (a .i) (p .2) (a .h) (p .3) lt n (count .ensures) 5 (omega arith)) in
+    (p .0, delivery-working (a .net .now) (p .0) m (p .1) (a .i) (p .2) (a .h) (p .3) lt n (count .ensures) up, chosen-again (a .net .now) (p .0) m (p .1) (a .i) (p .2) (a .h) (p .3) lt n (count .ensures) up w (get5 .result) (get5 .ensures .0), search needs)
 
 same-length-4 : tie.Need-same-length-4
 same-length-4 c = search needs
 
 returns-4 : tie.Need-returns-4
 returns-4 c =
-    let a = c .before .before .before .before .before .before .before .before .before .before .before .before .before .before .before .before .before .before .before .before .before .args in
-    let p = c .before .before .before .before .before .before .before .before .before .before .before .before .before .before .before .before .before .before .before .before .before .pre in
-    let get = c .before .before .before .before .before .before .before .before .before .before .before .before .before .before .before .before .before .get in
-    let get2 = c .before .before .before .before .before .before .before .before .before .before .before .before .before .before .before .get2 in
-    let count = c .before .before .before .before .before .before .before .before .before .before .before .before .count in
-    let get3 = c .before .before .before .before .before .before .before .before .get3 in
-    let if2 = c .before .before .before .before .before .before .before .if2 in
-    let work = c .before .before .work in
+    let a = c .before .before .before .before .before .before .before .before .before .before .before .before .before .before .before .before .before .before .before .before .before .before .before .args in
+    let p = c .before .before .before .before .before .before .before .before .before .before .before .before .before .before .before .before .before .before .before .before .before .before .before .pre in
+    let get = c .before .before .before .before .before .before .before .before .before .before .before .before .before .before .before .before .before .before .before .get in
+    let get2 = c .before .before .before .before .before .before .before .before .before .before .before .before .before .before .before .before .before .get2 in
+    let if1 = c .before .before .before .before .before .before .before .before .before .before .before .before .before .before .before .before .if1 in
+    let count = c .before .before .before .before .before .before .before .before .before .before .before .before .before .before .count in
+    let get4 = c .before .before .before .before .before .before .before .get4 in
+    let if3 = c .before .before .before .before .before .before .if3 in
+    let work = c .before .before .work-from in
     let m = cells (a .s .now) in
     let n = cells (count .last .0) in
-    let lt : m (a .i) (6 + a .h) < m (a .h) 1 = omega (arith, get .ensures .0, get2 .ensures .0) in
-    let up : m (a .i) 0 ≡ 1 =
-    omega (arith, get3 .ensures .0, if2 .left, same-place (a .net .now) (p .0) m (p .1) (a .i) (p .2) (a .h) (p .3) lt n (count .ensures) 0 (omega arith)) in
+    let lt : m (a .i) (6 + a .h) < m (a .h) 1 = omega (arith, get .ensures .0, get2 .ensures .0, if1 .left) in
+    let up : m (a .i) 0 ≡ 1 = omega (arith, get4 .ensures .0, if3 .left, same-place (a .net .now) (p .0) m (p .1) (a .i) (p .2) (a .h) (p .3) lt n (count .ensures) 0 (omega arith)) in
     works-on (a .net .now) (p .0) m (p .1) (a .i) (p .2) (a .h) (p .3) lt n (count .ensures) up (cells (work .last .1 .0)) (work .ensures)
 
 pub deliver-spec : {M : Type 1} → statement M
@@ -156,6 +170,8 @@ deliver-spec =
     get-requires-4
     same-length-3
     returns-3
-    work-requires
+    add-get-2
+    get-requires-5
+    work-from-requires
     same-length-4
     returns-4)

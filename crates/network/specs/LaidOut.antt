@@ -1,10 +1,9 @@
--- What a call answers of a network: the refusal's number only, or 0 and the network laid out in 772 bytes.
+-- How a network is laid out in 772 bytes.
 -- Assumes nothing.
-use Prim.Native.Nat.{ℕ, zero, suc, _+_, _*_}
+use Prim.Native.Nat.{ℕ, suc, _+_, _*_}
 use mathlib.Core.List.{List, [], _∷_}
 use lib.ListN.{length, set, replicate}
 use Rattle.method.specs.Network.{Arc, Net}
-use Rattle.network.specs.declared.Checked.{Checked}
 
 -- nothing laid out: 255 everywhere
 abbrev pub blank : List ℕ
@@ -30,12 +29,3 @@ withArcs g k (a ∷ ar) = withArcs (withArc g k a) (suc k) ar
 -- a network laid out
 abbrev pub laidOut : Net → List ℕ
 laidOut net = withArcs (headed (net .n) (net .lmax) (length (net .arcs))) 0 (net .arcs)
-
--- the answer, where the refusal is r and g was laid out
-abbrev pub settled : ℕ → List ℕ → Checked
-settled zero g = record { refusal = 0; laid = g }
-settled (suc r) g = record { refusal = suc r; laid = blank }
-
--- the answer of a network
-abbrev pub answer : ℕ → Net → Checked
-answer r net = settled r (laidOut net)
