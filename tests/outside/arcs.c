@@ -47,9 +47,7 @@ static void runs_the_same(unsigned kind)
     uint16_t entries[16][16][2];
     size_t len = zaq_written(zaq_pack_network((uint8_t)net.n, (uint8_t)net.lmax, list, net.arcs, got.bytes));
     random_steps(&net, kind, steps, sizeof steps);
-    ref_start(&run, &net);
-    for (size_t k = 0; k < sizeof steps; k++)
-        ref_step(&run, steps[k]);
+    ref_run_steps(&run, &net, steps, sizeof steps);
     same_answer(CHECK, zaq_check_network(got.bytes, len), 0, "a packed network is accepted");
     same_answer(RUN, zaq_run(got.bytes, len, steps, sizeof steps, counts, entries), 0, "a packed network runs");
     int same = counts[0] == run.taken && counts[1] == run.idle && counts[2] == run.unknown && counts[3] == ref_stopped(&run);

@@ -21,9 +21,7 @@ static void random_run(unsigned kind, size_t count)
     random_network(&net);
     step_count = count;
     random_steps(&net, kind, steps, step_count);
-    ref_start(&run, &net);
-    for (size_t k = 0; k < step_count; k++)
-        ref_step(&run, steps[k]);
+    ref_run_steps(&run, &net, steps, step_count);
     net_len = ref_network_bytes(&net, bytes);
     net_refusal = 0;
 }

@@ -121,8 +121,6 @@ void print_house(void)
         printf("refused %u\n", refusal);
         return;
     }
-    ref_start(&run, &net);
-    for (size_t k = need; k < len; k++)
-        ref_step(&run, bytes[k]);
+    ref_run_steps(&run, &net, bytes + need, len - need);
     fwrite(text, 1, reference_text(), stdout);
 }

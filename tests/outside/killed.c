@@ -78,9 +78,7 @@ void test_killed_writer(void)
             random_network(&net);
         while (net.n < 4 || net.arcs < net.n);
         random_steps(&net, 0, steps, count);
-        ref_start(&run, &net);
-        for (size_t k = 0; k < count; k++)
-            ref_step(&run, steps[k]);
+        ref_run_steps(&run, &net, steps, count);
         every_kill(1 + random_below(net.n), steps, count);
     }
 }

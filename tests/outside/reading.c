@@ -89,9 +89,7 @@ static size_t run_file(unsigned kind, uint8_t *bytes, unsigned *node)
     random_network(&net);
     size_t count = random_below(3) ? random_below(400) : sizeof steps;
     random_steps(&net, kind, steps, count);
-    ref_start(&run, &net);
-    for (size_t k = 0; k < count; k++)
-        ref_step(&run, steps[k]);
+    ref_run_steps(&run, &net, steps, count);
     *node = 1 + random_below(net.n);
     return run.node[*node].started ? ref_write_file(&run, *node, bytes) : 0;
 }

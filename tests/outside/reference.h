@@ -60,6 +60,7 @@ struct ref_run {
 
 void ref_start(struct ref_run *run, const struct ref_net *net);
 void ref_step(struct ref_run *run, uint8_t step);
+void ref_run_steps(struct ref_run *run, const struct ref_net *net, const uint8_t *steps, size_t count);
 struct ref_entry ref_entry_of(const struct ref_run *run, unsigned node, unsigned target);
 unsigned ref_stopped(const struct ref_run *run);
 

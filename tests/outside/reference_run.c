@@ -122,6 +122,13 @@ void ref_step(struct ref_run *run, uint8_t step)
         work(run, tail, nd->waits_for, nd->wait_sum);
 }
 
+void ref_run_steps(struct ref_run *run, const struct ref_net *net, const uint8_t *steps, size_t count)
+{
+    ref_start(run, net);
+    for (size_t k = 0; k < count; k++)
+        ref_step(run, steps[k]);
+}
+
 struct ref_entry ref_entry_of(const struct ref_run *run, unsigned node, unsigned target)
 {
     const struct ref_node *nd = &run->node[node];

@@ -49,9 +49,7 @@ static void same_run(size_t len, size_t count, unsigned refusal, const char *wha
 
 static size_t simulate(size_t count)
 {
-    ref_start(&run, &net);
-    for (size_t k = 0; k < count; k++)
-        ref_step(&run, steps[k]);
+    ref_run_steps(&run, &net, steps, count);
     return ref_network_bytes(&net, bytes);
 }
 
