@@ -95,10 +95,13 @@ static void build_case(const struct read_case *c)
 /* What document 01 says, by the simulation of the outside tests. */
 static uint32_t expected(const struct asked_file *f)
 {
-    struct ref_entry e;
-    unsigned refusal = ref_read_file(f->bytes, f->len, f->target, &e);
+    struct ref_file file;
+    unsigned refusal = ref_read_file(f->bytes, f->len, &file);
     if (refusal)
         return refusal;
+    if (f->target < 1 || f->target > file.n)
+        return 11;
+    struct ref_entry e = ref_file_entry(&file, f->target);
     if (e.distance < 0)
         return (e.distance == UNKNOWN ? ZAQ_UNKNOWN : (uint32_t)ZAQ_UNREACHABLE) << 16 | ZAQ_NO_HOP << 8;
     return (uint32_t)e.distance << 16 | e.hop << 8;
