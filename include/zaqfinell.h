@@ -1,11 +1,10 @@
 /* Zaqfinell: routing for houses of up to sixteen devices.
  *
- * Link with libzaqfinell.a. No call keeps anything, allocates anything, or needs to be set up: each takes numbers and buffers and gives
- * one number. A call may be made with any input. What is wrong is refused with its number, and then nothing is written. Buffers do not
- * overlap; one of length 0 may be NULL.
+ * Link with libzaqfinell.a. Each call takes numbers and buffers and gives one number. No call keeps anything, allocates anything or needs
+ * to be set up, so calls may be made from several tasks at once. Lengths and contents may be anything: what is wrong is refused with its
+ * number, and then nothing is written. Pointers are valid for their lengths and buffers do not overlap; one of length 0 may be NULL.
  *
- * Every answer (but that of zaq_house_table, a length) has the refusal's number in its low byte, 0 for none, and its values above it,
- * all 0 on a refusal. zaq_refusal, zaq_written, zaq_hop and zaq_distance take an answer apart.
+ * Stack, measured on x86-64: under 16 KiB for a call that runs steps, 124 bytes for zaq_read_entry (docs/BENCHMARKS.md has each).
  */
 #ifndef ZAQFINELL_H
 #define ZAQFINELL_H
@@ -16,7 +15,35 @@
 extern "C" {
 #endif
 
-/* The refusals, document 01's numbers:
+/* ---- The words ----
+ *
+ * A house has n nodes, numbered 1 to n (at most 16), and one-way arcs (at most 240). An arc leads from its tail to its head: its tail
+ * hears what its head sends, and routes and distances run from tail to head. Its length is 1 to LMAX, the house's greatest length,
+ * itself 1 to 15. Two devices on one cable are two arcs.
+ *
+ * Network bytes: 4 bits each: version 1, n - 1, LMAX, 0; 8 bits: the arc count; then for each arc 4 bits each: tail - 1, head - 1, length;
+ * zero bits to the byte's end. The most significant bit is first. zaq_pack_network makes them of a list.
+ *
+ * A step is one byte. 0 to 15: start node byte + 1. 16 to 255: deliver the oldest undelivered message of arc byte - 16, counted from 0 in
+ * the network's order. A step that names no node or arc is counted unknown; a second start, or a delivery where nothing is undelivered,
+ * is counted idle; neither changes anything. All others are taken. A message that is delivered to a node before its start is kept.
+ * A list of steps may have any length. A node that has stopped knows all that there is to know. While a node has not stopped some step
+ * is always taken, and no node sends more than n * LMAX + n + 1 messages: start every node, then deliver on every arc in turn, until as
+ * many have stopped as there are.
+ *
+ * An entry is node i's knowledge of a target: unknown, unreachable, or a distance with a first hop. It is right and final as soon as it
+ * is not unknown, in every order of steps. Before its start a node knows nothing, itself neither; unreachable is said from its stop on.
+ *
+ * A table file holds a node's entries in the order in which it filled them, 2 to 27 bytes. Cut short after the second byte or later, it
+ * gives the entries that stand whole, and unknown for the rest: that is not told apart from the file of a node that has not stopped.
+ */
+
+/* ---- Answers ----
+ *
+ * Every answer (but that of zaq_house_table, a length) has the refusal in its low byte, 0 for none, and its values above it, all 0 on a
+ * refusal. Where several refusals hold, a call gives the first in the order that its comment has them. zaqfinell_words.h has them as
+ * texts.
+ *
  *   1  network bytes under 3, or not the number of bytes that its arcs take
  *   2  network version not 1, or the fourth field not 0
  *   3  LMAX outside 1 to 15
@@ -26,7 +53,7 @@ extern "C" {
  *   7  an arc of length 0 or over LMAX
  *   8  two arcs with the same tail and head
  *   9  a padding bit of the network not 0
- *  10  no room in a sent list (proved never to happen)
+ *  10  no room in a sent list
  *  11  node or target outside 1 to n
  *  12  file wanted of a node not started
  *  13  what is to be written is longer than the room
@@ -36,62 +63,72 @@ extern "C" {
  *  17  a whole record of the file is wrong
  *  18  after the end mark, a bit not 0 or a further byte
  *  19  arc list: n outside 1 to 16
+ *
+ * 10 is proved never to happen. Of a network the order is 1 (under 3), 2, 3, 4, 1 (length), then arc by arc 5 to 8, then 9.
  */
 static inline uint32_t zaq_refusal(uint32_t answer) { return answer & 255; }
 
-/* An entry's distance is one of these marks, or the distance: 0 to 225. Neither mark is ever 0. */
+/* The distance, 0 to 225, or one of the two marks. */
 enum { ZAQ_UNKNOWN = 65535, ZAQ_UNREACHABLE = 65534 };
 static inline uint32_t zaq_distance(uint32_t answer) { return answer >> 16; }
 
-/* An entry's first hop: a node, 0 for the node itself only, or ZAQ_NO_HOP beside a mark. */
+/* The first hop: a node, 0 for the node itself only, or ZAQ_NO_HOP beside a mark. */
 enum { ZAQ_NO_HOP = 255 };
 static inline uint32_t zaq_hop(uint32_t answer) { return answer >> 8 & 255; }
+
+/* How many nodes a route passes. */
+static inline uint32_t zaq_passed(uint32_t answer) { return answer >> 8 & 255; }
 
 /* How many numbers a call wrote into the room. */
 static inline uint32_t zaq_written(uint32_t answer) { return answer >> 8 & 65535; }
 
 /* ---- The firmware's three calls ---- */
 
-/* Checks a network's bytes. Refusals 1 to 9. */
+/* Checks a network's bytes. Refusals: the network's. */
 uint32_t zaq_check_network(const uint8_t *net, size_t net_len);
 
-/* Runs the steps over the network and writes the table file of one node into the room: zaq_written bytes, ZAQ_FILE_ROOM at most; the
- * room's other bytes stay. Refusals 1 to 9, 11, 12, 13.
+/* Runs the steps over the network and writes the table file of one node at the room's start: zaq_written bytes. The room's other bytes
+ * stay. Refusals: the network's, 11, 12, 13; a room of ZAQ_FILE_ROOM is always enough.
  */
 enum { ZAQ_FILE_ROOM = 27 };
 uint32_t zaq_write_table(const uint8_t *net, size_t net_len, const uint8_t *steps, size_t steps_len, uint32_t node, uint8_t *room, size_t room_len);
 
-/* Reads one entry from a table file, whole or cut: zaq_distance and zaq_hop. Refusals 14 to 18, then 11 for the target. */
+/* Reads one entry from a table file, whole or cut: zaq_distance and zaq_hop. file_len is the file's length, not the room's: bytes behind the
+ * end mark are refused. Refusals: 14, 15, 16, 17 record by record, 18, then 11 for the target.
+ */
 uint32_t zaq_read_entry(const uint8_t *file, size_t file_len, uint32_t target);
 
 /* ---- For benches, service desks and installers ---- */
 
 /* Reads all entries of a table file of n nodes in one pass: zaq_written = 2 * n numbers, for each target from 1 to n its distance or mark,
- * then its first hop. ZAQ_TABLE_ROOM is always enough. Refusals 14 to 18, then 13.
+ * then its first hop. Refusals: 14 to 18 as above, then 13; a room of ZAQ_TABLE_ROOM numbers is always enough.
  */
 enum { ZAQ_TABLE_ROOM = 32 };
 uint32_t zaq_read_table(const uint8_t *file, size_t file_len, uint16_t *room, size_t room_len);
 
 /* The whole outcome of a run. counts: how many steps were taken, idle, unknown, and how many nodes have stopped.
- * entries[i - 1][y - 1]: node i's distance to y, or a mark, and its first hop, for i and y from 1 to n; the others stay. Refusals 1 to 9.
+ * entries[i - 1][y - 1]: node i's distance to y, or a mark, and its first hop, for i and y from 1 to n; the others stay.
+ * Refusals: the network's.
  */
 uint32_t zaq_run(const uint8_t *net, size_t net_len, const uint8_t *steps, size_t steps_len, uint64_t counts[4], uint16_t entries[16][16][2]);
 
-/* One entry after a run: node's entry for target, zaq_distance and zaq_hop. Refusals 1 to 9, 11. */
+/* One entry after a run: the node's for the target, zaq_distance and zaq_hop. Refusals: the network's, 11. */
 uint32_t zaq_entry(const uint8_t *net, size_t net_len, const uint8_t *steps, size_t steps_len, uint32_t node, uint32_t target);
 
-/* The route from node to target after a run: zaq_distance is the distance or a mark, and the room begins with the nodes behind `node` that
- * first hops pass, target last; zaq_hop of the answer is how many they are, 0 beside a mark. The room's other bytes stay. Refusals 1 to 9, 11.
+/* The route from node to target after a run. zaq_distance is the distance or a mark; the room begins with the zaq_passed nodes behind
+ * `node` on the way, target last, and its other bytes stay. None are passed beside a mark, and none where node is target.
+ * Refusals: the network's, 11.
  */
 enum { ZAQ_ROUTE_ROOM = 16 };
 uint32_t zaq_route(const uint8_t *net, size_t net_len, const uint8_t *steps, size_t steps_len, uint32_t node, uint32_t target, uint8_t room[ZAQ_ROUTE_ROOM]);
 
-/* A network handed over as a list of arcs: writes its bytes into the room, zaq_written of them; every other call takes these. The room's
- * other bytes stay. Refusals 19, 3, 4, then arc by arc 5 to 8.
+/* A network handed over as a list of arcs: writes its bytes at the room's start, zaq_written of them; every other call takes these, and
+ * steps number the arcs as the list does. The room's other bytes stay. Refusals: 19, 3, 4, then arc by arc 5 to 8. The numbers are bytes:
+ * check a wider one before it is cut to 8 bits.
  */
 typedef struct zaq_arc {
-    uint8_t tail; /* this node hears .. */
-    uint8_t head; /* .. this one */
+    uint8_t tail;
+    uint8_t head;
     uint8_t length;
 } zaq_arc;
 enum { ZAQ_NETWORK_ROOM = 363 };

@@ -135,7 +135,7 @@ number=0
 while read -r words; do
     if ((number > 0)); then verdict "the words for $number are not the header's" grep -qF " $number  $words" include/zaqfinell.h; fi
     number=$((number + 1))
-done < <(sed -nE 's/^        "(.*)",$/\1/p' tools/refusals.h)
+done < <(sed -nE 's/^        "(.*)",$/\1/p' include/zaqfinell_words.h)
 verdict 'there are words for 1 to 19' test "$number" = 20
 
 # names may be anything

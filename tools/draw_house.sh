@@ -5,7 +5,7 @@ set -eu
 root=$(cd "$(dirname "$0")/.." && pwd)
 program=$root/target/tools/draw_house
 # a program that is older than a source would draw yesterday's picture
-if [ ! -x "$program" ] || [ -n "$(find "$root/tools/draw_house" "$root/tools/refusals.h" "$root/include" -newer "$program" -print -quit)" ]; then
+if [ ! -x "$program" ] || [ -n "$(find "$root/tools/draw_house" "$root/include" -newer "$program" -print -quit)" ]; then
     bash "$root/tools/build.sh" draw_house
 fi
 exec "$program" "$@"

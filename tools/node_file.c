@@ -1,5 +1,5 @@
 /* node_file: runs steps over a network and writes the table file of one node to standard output. */
-#include "refusals.h"
+#include "../include/zaqfinell_words.h"
 #include "zaqfinell.h"
 #include <errno.h>
 #include <stdio.h>
@@ -41,7 +41,7 @@ int main(int count, char **word)
     long node = strtol(word[3], NULL, 10);
     uint32_t answer = zaq_write_table(net, net_len, steps, steps_len, node < 1 || node > 255 ? 0 : (uint32_t)node, room, sizeof room);
     if (zaq_refusal(answer)) {
-        fprintf(stderr, "node_file: refused %u: %s\n", (unsigned)zaq_refusal(answer), refusal_words(zaq_refusal(answer)));
+        fprintf(stderr, "node_file: refused %u: %s\n", (unsigned)zaq_refusal(answer), zaq_words(zaq_refusal(answer)));
         return REFUSED;
     }
     if (fwrite(room, 1, zaq_written(answer), stdout) != zaq_written(answer) || fflush(stdout) != 0) {

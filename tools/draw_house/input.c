@@ -1,6 +1,6 @@
 /* Reads the files. What is a network or a table is the library's to say; what fits together is said here. */
 #include "draw.h"
-#include "../refusals.h"
+#include "../../include/zaqfinell_words.h"
 #include "zaqfinell.h"
 #include <errno.h>
 #include <stdarg.h>
@@ -31,7 +31,7 @@ int read_file(const char *path, uint8_t room[FILE_ROOM], size_t *len)
 
 static int refused(const char *path, uint32_t refusal)
 {
-    return trouble(REFUSED, path, "refused %u: %s", (unsigned)refusal, refusal_words(refusal));
+    return trouble(REFUSED, path, "refused %u: %s", (unsigned)refusal, zaq_words(refusal));
 }
 
 /* Every field of a network and of a table's header is four bits wide, but for the arc count. */

@@ -1,9 +1,9 @@
-/* The refusals' words, for the tools that tell a person. The numbers are the library's. */
-#ifndef REFUSALS_H
-#define REFUSALS_H
+/* The refusals' words, for programs that tell a person; zaqfinell.h has the numbers. */
+#ifndef ZAQFINELL_WORDS_H
+#define ZAQFINELL_WORDS_H
 #include <stdint.h>
 
-static inline const char *refusal_words(uint32_t refusal)
+static inline const char *zaq_words(uint32_t refusal)
 {
     static const char *const words[] = {
         "no refusal",
