@@ -10,7 +10,7 @@ use Rattle.table.specs.Reader.{Read, refusal, says}
 use Rattle.table.specs.declared.Outcome.{Outcome}
 use Rattle.table.specs.declared.Outcome.the-variants.{Written, Refused}
 
--- a in bits 8 to 15, b in bits 16 to 31
+-- a from bit 8 on, b from bit 16 on: where there is a b, a is below 256
 abbrev pub values : ℕ → ℕ → ℕ
 values a b = 256 * a + 65536 * b
 
@@ -23,10 +23,20 @@ abbrev pub readAnswer : Read → ℕ
 readAnswer (refusal r) = r
 readAnswer (says e) = entryValues e
 
+-- its refusal, 0 for none
+abbrev pub readRefusal : Read → ℕ
+readRefusal (refusal r) = r
+readRefusal (says e) = 0
+
 -- what a call with a room answers: how many numbers it wrote, or the refusal's number only
 abbrev pub outcomeAnswer : Outcome → ℕ
 outcomeAnswer (Written k) = values k 0
 outcomeAnswer (Refused r) = r
+
+-- its refusal, 0 for none
+abbrev pub outcomeRefusal : Outcome → ℕ
+outcomeRefusal (Written k) = 0
+outcomeRefusal (Refused r) = r
 
 -- node i's entry for y in a room for all entries, 16 by 16 by 2
 abbrev pub withEntry : ℕ → ℕ → Entry → List ℕ → List ℕ

@@ -39,12 +39,18 @@ tenRefusal net bs = when (refused10 (network net) (steps bs)) 10
 abbrev pub runRefusal : List ℕ → List ℕ → ℕ
 runRefusal net bs = refusal net else tenRefusal net bs
 
--- taken, idle, unknown, and how many nodes have stopped
+-- how many steps were taken, idle, unknown, and how many nodes have stopped
+abbrev pub countsOf : List ℕ → List ℕ → Counts
+countsOf net bs = counts (network net) (steps bs)
+
+abbrev pub stoppedOf : List ℕ → List ℕ → ℕ
+stoppedOf net bs = stoppedTo (stateAfter net bs) (nodesOf net)
+
 abbrev pub countList : Counts → ℕ → List ℕ
 countList c k = c .taken ∷ c .idle ∷ c .unknown ∷ k ∷ []
 
 abbrev pub countsAfter : List ℕ → List ℕ → List ℕ
-countsAfter net bs = countList (counts (network net) (steps bs)) (stoppedTo (stateAfter net bs) (nodesOf net))
+countsAfter net bs = countList (countsOf net bs) (stoppedOf net bs)
 
 -- the two rooms of the call: the counts, and the entries of every node
 abbrev pub countsRoom : List ℕ → List ℕ → List ℕ → List ℕ
@@ -76,7 +82,7 @@ routeAnswer net bs i y = entryRefusal net bs i y else values (length (nodesPasse
 abbrev pub routeRoom : List ℕ → List ℕ → ℕ → ℕ → List ℕ → List ℕ
 routeRoom net bs i y room = unless (entryRefusal net bs i y) room (begins (nodesPassed net bs i y) room)
 
--- "run and write one node's file": "Then 11, the run (10), 12, 13."
+-- "run and write one node's file": "Then 11, the run (10), 12, 13", in a room of `wide` bytes
 abbrev pub isUnstarted : Phase → Bool
 isUnstarted unstarted = true
 isUnstarted started = false
@@ -86,12 +92,12 @@ abbrev pub fileAfter : List ℕ → List ℕ → ℕ → List ℕ
 fileAfter net bs i = nodeFile one (network net) (steps bs) i
 
 abbrev pub writeRefusal : List ℕ → List ℕ → ℕ → ℕ → ℕ
-writeRefusal net bs i size =
+writeRefusal net bs i wide =
     refusal net
     else when (outside (nodesOf net) i) 11
     else tenRefusal net bs
     else when (isUnstarted (phase (network net) (steps bs) i)) 12
-    else when (ltb size (length (fileAfter net bs i))) 13
+    else when (ltb wide (length (fileAfter net bs i))) 13
 
 -- how many bytes were written
 abbrev pub writeAnswer : List ℕ → List ℕ → ℕ → List ℕ → ℕ

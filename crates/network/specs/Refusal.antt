@@ -15,7 +15,7 @@ abbrev pub when : Bool → ℕ → ℕ
 when true r = r
 when false r = 0
 
--- the first of two refusals
+-- the refusal, or, where there is none, what follows
 abbrev pub _else_ : ℕ → ℕ → ℕ
 zero else r = r
 suc q else r = suc q

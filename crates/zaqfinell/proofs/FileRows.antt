@@ -1,9 +1,9 @@
 -- The refusals of a reader are what 01's rows tell: the header, records in order, what stands behind the 0 bit.
 -- Assumes nothing.
-use mathlib.Core.Path.{_≡_, refl, sym, subst, _∙_}
+use mathlib.Core.Path.{_≡_, refl, sym, ap, subst}
 use mathlib.Core.Logic.{_⊎_, inl, inr, _≢_}
 use mathlib.Core.Bool.{Bool, true, false, not, _&&_, _||_, true≢false}
-use mathlib.Core.List.{List, [], _∷_}
+use mathlib.Core.List.{List, [], _∷_, map}
 use Prim.Native.Nat.{ℕ, zero, suc, _+_, _-_, _*_, _%_, _≤_, _<_}
 use native.Mathlib.Omega.{arith}
 use lib.ListN.{length}
@@ -11,6 +11,7 @@ use lib.Dec.{ltb, leb, eqb}
 use borrow.Author.Tests.{eqb-true, eqb-false, ltb-true, ltb-false, leb-true, leb-false}
 use Rattle.bits.specs.Bits.{bitsOf, field}
 use Rattle.method.specs.If.{if_then_else_}
+use Rattle.method.specs.Distinct.{Among}
 use Rattle.method.specs.Rules.{Filled, has}
 use Rattle.method.specs.Entries.{Entry, lastDistance}
 use Rattle.network.specs.Refusal.{when, _else_, outside}
@@ -23,7 +24,7 @@ use Rattle.table.specs.declared.Ending.{Ending}
 use Rattle.table.specs.declared.Ending.the-variants.{Unfinished, Marked, Faulty}
 use Rattle.zaqfinell.specs.Rows.{_given_else_, Exactly, Wrong, Whole, Spoilt, recordRows, fileRows, readRows, tableRows}
 use Rattle.zaqfinell.specs.Rows.Wrong.{targetOver, targetOwn, repeated, hopOver, hopOwn, steep, flat}
-use Rattle.zaqfinell.specs.Requirement1.{readRefusal, outcomeRefusal}
+use Rattle.calls.specs.Answers.{readRefusal, outcomeRefusal}
 use Rattle.zaqfinell.proofs.Rows.{Decides, by-row, same, by-last, both, less, equal, unequal, is-outside}
 
 -- a test decides as well what is the same in other words
@@ -34,16 +35,22 @@ also : (t u : Bool) (A B : Type 0) → Decides t A → Decides u B → Decides (
 also true u A B a b = record { yes = λ e. (a .yes refl, b .yes e); no = λ e p. b .no e (p .1) }
 also false u A B a b = record { yes = λ e. absurd (true≢false (sym e)); no = λ e p. a .no refl (p .0) }
 
-itself : (t : Bool) → Decides t (t ≡ true)
-itself t = record { yes = λ e. e; no = λ e f. true≢false (sym f ∙ e) }
+-- "repeated", and "the first record"
+is-among : (y : ℕ) (es : List Filled) → Decides (has y es) (Among y (map (λ (r : Filled). r .target) es))
+is-among y [] = record { yes = λ e. absurd (true≢false (sym e)); no = λ e m. m }
+is-among y (x ∷ es) = both _ _ _ _ (equal y (x .target)) (is-among y es)
+
+is-first : (es : List Filled) → Decides (eqb (length es) 0) (es ≡ [])
+is-first [] = record { yes = λ _. refl; no = λ e. absurd (true≢false e) }
+is-first (x ∷ es) = record { yes = λ e. absurd (omega (arith, eqb-true (length (x ∷ es)) 0 e)); no = λ _ e. omega (arith, ap length e) }
 
 -- 17, field by field
 module _ (h : Head) (seen : List Filled) (e : Filled) where
   -- the fields in the order of the tests
   abbrev Fields : Type 0
   Fields =
-      ((((((h .n < e .target) ⊎ (e .target ≡ h .own)) ⊎ (has (e .target) seen ≡ true)) ⊎ (h .n < e .hop)) ⊎ (e .hop ≡ h .own))
-      ⊎ (h .lmax < e .distance - lastDistance seen)) ⊎ ((length seen ≡ 0) × (e .distance - lastDistance seen ≡ 0))
+      ((((((h .n < e .target) ⊎ (e .target ≡ h .own)) ⊎ Among (e .target) (map (λ (r : Filled). r .target) seen)) ⊎ (h .n < e .hop)) ⊎ (e .hop ≡ h .own))
+      ⊎ (h .lmax < e .distance - lastDistance seen)) ⊎ ((seen ≡ []) × (e .distance - lastDistance seen ≡ 0))
 
   to : Fields → Wrong h seen e
   to (inl (inl (inl (inl (inl (inl x)))))) = targetOver x
@@ -67,9 +74,9 @@ module _ (h : Head) (seen : List Filled) (e : Filled) where
   unfolding wrong wrongFields
   is-wrong =
       let d2 = both _ _ _ _ (less (h .n) (e .target)) (equal (e .target) (h .own)) in
-      let d4 = both _ _ _ _ (both _ _ _ _ d2 (itself (has (e .target) seen))) (less (h .n) (e .hop)) in
+      let d4 = both _ _ _ _ (both _ _ _ _ d2 (is-among (e .target) seen)) (less (h .n) (e .hop)) in
       let d6 = both _ _ _ _ (both _ _ _ _ d4 (equal (e .hop) (h .own))) (less (h .lmax) (e .distance - lastDistance seen)) in
-      reworded _ Fields _ to from (both _ _ _ _ d6 (also _ _ _ _ (equal (length seen) 0) (equal (e .distance - lastDistance seen) 0)))
+      reworded _ Fields _ to from (both _ _ _ _ d6 (also _ _ _ _ (is-first seen) (equal (e .distance - lastDistance seen) 0)))
 
 -- the refusal where the records end so, and q is that of what is asked then
 abbrev pub ended : Ending → ℕ → ℕ

@@ -1,10 +1,12 @@
+pub mod Unique
 pub mod Rows
 pub mod FileRows
 pub mod Requirement1
+pub mod Small
 pub mod Asked
+pub mod Ending
 pub mod Requirement2
 pub mod Requirement3
-pub mod Unique
 pub mod Apart
 pub mod Left
 pub mod Examples

@@ -1,7 +1,7 @@
 -- Requirement 2 holds.
 -- Assumes nothing.
 use mathlib.Core.Path.{_≡_, refl, sym, ap, subst, _∙_}
-use mathlib.Core.Logic.{_≢_, _↔_}
+use mathlib.Core.Logic.{⊎-elim, _≢_}
 use mathlib.Core.Bool.{Bool, true, false, true≢false}
 use mathlib.Core.Option.{Option, none, some}
 use mathlib.Core.List.{List, [], _∷_, _++_, map-append}
@@ -9,36 +9,46 @@ use Prim.Native.Nat.{ℕ, zero, suc, _+_, _≤_, _<_}
 use native.Mathlib.Omega.{arith}
 use lib.ListN.{length, take, drop, length-map}
 use lib.Seq.{take-at}
-use lib.Dec.{eqb}
-use borrow.Author.Tests.{eqb-true, eqb-false}
+use lib.Dec.{ltb, eqb}
+use borrow.Author.Tests.{ltb-true, eqb-true, eqb-false}
 use Rattle.method.specs.If.{if_then_else_}
-use Rattle.method.specs.Network.{IsNode}
-use Rattle.method.specs.Distance.{NoChain}
+use Rattle.method.specs.Network.{Arc, house, IsNode}
 use Rattle.method.specs.Rules.{Filled, Phase, unstarted, started, stopped}
 use Rattle.method.specs.Steps.{State, Step, steps, byteStep, counts, counted}
-use Rattle.method.specs.Entries.{Entry, unknown, unreachable, known, find, said, table, Stopped}
+use Rattle.method.specs.Entries.{Entry, unknown, unreachable, known, find, said, phase, table, Stopped}
 use Rattle.method.proofs.Proved.{laws as method-laws}
 use Rattle.method.proofs.Said.{unreachable-no-chain}
-use Rattle.network.specs.Bytes.{network}
+use Rattle.bits.proofs.Bytes.{length-packed}
+use Rattle.network.specs.Refusal.{when, _else_, outside}
+use Rattle.network.specs.Bytes.{network, refusal, size, netBits, bytesOf}
+use Rattle.network.specs.ArcList.{listRefusal}
+use Rattle.network.specs.Pack.{packRoom}
+use Rattle.network.proofs.Refused.{inside}
 use Rattle.network.specs.Room.{unless, begins}
 use Rattle.network.proofs.Laws.{checks}
 use Rattle.entries.specs.Read.{atEnd, isStopped, stoppedTo}
 use Rattle.table.specs.File.{one}
 use Rattle.table.specs.Reader.{entryRead}
-use Rattle.table.proofs.Proved.{laws as file-laws}
+use Rattle.table.proofs.Proved.{laws as file-laws, at-most-27}
+use Rattle.route.specs.Route.{route}
+use Rattle.route.specs.Laws.{Over, lastOf}
+use Rattle.route.proofs.Laws.{laws as route-laws}
+use Rattle.calls.proofs.Ten.{never-ten}
 use Rattle.calls.specs.Answers.{readAnswer}
-use Rattle.calls.specs.Calls.{nodesOf, stateAfter, entryAfter, runRefusal, entryRefusal, entryAnswer, fileAfter, writeRefusal, writeRoom}
-use Rattle.zaqfinell.specs.Requirement2.{Says, countsOf, stoppedOf, Requirement2}
+use Rattle.calls.specs.Calls.{nodesOf, stateAfter, entryAfter, countsOf, stoppedOf, tenRefusal, runRefusal, entryRefusal, entryAnswer, passed, nodesPassed, isUnstarted, fileAfter, writeRefusal, writeRoom}
+use Rattle.zaqfinell.specs.Requirement2.{IsSo, Requirement2}
+use Rattle.zaqfinell.proofs.Small.{small-network}
+use Rattle.zaqfinell.proofs.Ending.{all-or-one, ends}
 use Rattle.zaqfinell.proofs.Asked.{Asked, asked, answered, run-accepted, wrote, beside}
 
 -- what an entry says is so
-right : (net bs : List ℕ) (i y : ℕ) → entryRefusal net bs i y ≡ 0 → Says (network net) i y (entryAfter net bs i y)
+right : (net bs : List ℕ) (i y : ℕ) → entryRefusal net bs i y ≡ 0 → IsSo (network net) i y (entryAfter net bs i y)
 right net bs i y e = go (entryAfter net bs i y) refl
   where
     a : Asked net i y
     a = asked net bs i y e
 
-    go : (x : Entry) → entryAfter net bs i y ≡ x → Says (network net) i y x
+    go : (x : Entry) → entryAfter net bs i y ≡ x → IsSo (network net) i y x
     go unknown is = tt
     go unreachable is = unreachable-no-chain (network net) (a .accepted .valid) (steps bs) i y is .1
     go (known d h) is = method-laws (network net) .a-filled-is-right (a .accepted .valid) (steps bs) i y d h is
@@ -75,33 +85,23 @@ all-stopped st (suc k) e j at = go (isStopped (st (suc k))) refl (eqb j (suc k))
 
 -- where fewer have, one has not
 one-working : (st : State) (k : ℕ) → stoppedTo st k < k → (j : ℕ) × IsNode k j × (isStopped (st j) ≡ false)
-one-working st zero lt = absurd (omega arith)
-one-working st (suc k) lt = go (isStopped (st (suc k))) refl (one-working st k)
+one-working st k lt = ⊎-elim (λ e. absurd (omega arith)) (λ w. w) (all-or-one st k)
+
+-- an entry of a node that has stopped is not unknown
+not-unknown : (net bs : List ℕ) (i y : ℕ) → Stopped (network net) (steps bs) i → entryAfter net bs i y ≢ unknown
+not-unknown net bs i y stop is = go found (sym (ap (λ (ph : Phase). said ph found) stop) ∙ is)
   where
-    go : (t : Bool) → isStopped (st (suc k)) ≡ t → (stoppedTo st k < k → (j : ℕ) × IsNode k j × (isStopped (st j) ≡ false)) → (j : ℕ) × IsNode (suc k) j × (isStopped (st j) ≡ false)
-    go false is rec = (suc k, (omega arith, omega arith), is)
-    go true is rec =
-        let sum : 1 + stoppedTo st k < suc k = subst (λ (t : Bool). (if t then 1 else 0) + stoppedTo st k < suc k) is lt in
-        let p = rec (omega arith) in
-        let at = p .1 in
-        (p .0, (omega arith, omega arith), p .2)
+    found : Option Filled
+    found = find y (table (network net) (steps bs) i)
 
-module _ (net bs : List ℕ) (all : stoppedOf net bs ≡ nodesOf net) (i y : ℕ) (e : entryRefusal net bs i y ≡ 0) where
-  has-stopped : Stopped (network net) (steps bs) i
-  has-stopped = at-end _ (all-stopped (stateAfter net bs) (nodesOf net) all i (asked net bs i y e .node))
+    go : (o : Option Filled) → said stopped o ≡ unknown → ⊥
+    go none z = let w : _≡_ {A = ℕ} 0 1 = cc in omega arith
+    go (some f) z = let w : _≡_ {A = ℕ} 0 1 = cc in omega arith
 
-  abbrev found : Option Filled
-  found = find y (table (network net) (steps bs) i)
-
-  filled : entryAfter net bs i y ≢ unknown
-  filled is = go found (sym (ap (λ (ph : Phase). said ph found) has-stopped) ∙ is)
-    where
-      go : (o : Option Filled) → said stopped o ≡ unknown → ⊥
-      go none z = let w : _≡_ {A = ℕ} 0 1 = cc in omega arith
-      go (some f) z = let w : _≡_ {A = ℕ} 0 1 = cc in omega arith
-
-  exactly : (entryAfter net bs i y ≡ unreachable) ↔ NoChain (network net .arcs) i y
-  exactly = method-laws (network net) .d-unreachable (asked net bs i y e .accepted .valid) (steps bs) i has-stopped y
+filled : (net bs : List ℕ) → stoppedOf net bs ≡ nodesOf net → (i y : ℕ) → entryRefusal net bs i y ≡ 0 → Stopped (network net) (steps bs) i × (entryAfter net bs i y ≢ unknown)
+filled net bs all i y e =
+    let stop = at-end _ (all-stopped (stateAfter net bs) (nodesOf net) all i (asked net bs i y e .node)) in
+    (stop, not-unknown net bs i y stop)
 
 -- one step more
 progress : (net bs : List ℕ) → runRefusal net bs ≡ 0 → stoppedOf net bs < nodesOf net
@@ -117,24 +117,77 @@ progress net bs e lt =
           ∙ ap (λ k. counted k (countsOf net bs) .taken) (s .2),
     )
 
+-- the route
+way : (net bs : List ℕ) (i y d h : ℕ) → entryRefusal net bs i y ≡ 0 → entryAfter net bs i y ≡ known d h
+    → Over (network net .arcs) i (nodesPassed net bs i y) d × (lastOf i (nodesPassed net bs i y) ≡ y)
+way net bs i y d h e is =
+    let a = asked net bs i y e in
+    let r = route-laws (network net) .arrives (a .accepted) (steps bs) i y d h (a .node) is in
+    subst (λ (x : Entry). Over (network net .arcs) i (passed x (route (stateAfter net bs) y i)) d × (lastOf i (passed x (route (stateAfter net bs) y i)) ≡ y)) (sym is) (r .over-arcs, r .ends)
+
+-- the file in the room
+written : (net bs : List ℕ) (i : ℕ) (room : List ℕ) → writeRefusal net bs i (length room) ≡ 0
+    → take (length (fileAfter net bs i)) (writeRoom net bs i room) ≡ fileAfter net bs i
+written net bs i room e =
+    ap (λ (r : ℕ). take (length (fileAfter net bs i)) (unless r room (begins (fileAfter net bs i) room))) e
+    ∙ take-at (fileAfter net bs i) (drop (length (fileAfter net bs i)) room) (length (fileAfter net bs i)) refl
+
+-- 27 bytes are enough
+fits : (net bs : List ℕ) (i : ℕ) → writeRefusal net bs i 27 ≢ 13
+fits net bs i = by-net (refusal net) refl
+  where
+    long : ℕ
+    long = length (fileAfter net bs i)
+
+    by-room : refusal net ≡ 0 → outside (nodesOf net) i ≡ false → (u : Bool) → isUnstarted (phase (network net) (steps bs) i) ≡ u
+        → (t : Bool) → ltb 27 long ≡ t → when u 12 else when t 13 ≢ 13
+    by-room z out true un t ef e = omega arith
+    by-room z out false un false ef e = omega arith
+    by-room z out false un true ef e =
+        let a = checks .bytes-accepted net z in
+        let up : phase (network net) (steps bs) i ≢ unstarted = λ q. true≢false (sym (ap isUnstarted q) ∙ un) in
+        omega (arith, ltb-true 27 long ef, at-most-27 (network net) a (steps bs) i (inside (nodesOf net) i out, up))
+
+    by-node : refusal net ≡ 0 → (o : Bool) → outside (nodesOf net) i ≡ o
+        → when o 11 else tenRefusal net bs else when (isUnstarted (phase (network net) (steps bs) i)) 12 else when (ltb 27 long) 13 ≢ 13
+    by-node z true out e = omega arith
+    by-node z false out e =
+        by-room z out (isUnstarted (phase (network net) (steps bs) i)) refl (ltb 27 long) refl
+        (sym (ap (λ (r : ℕ). r else when (isUnstarted (phase (network net) (steps bs) i)) 12 else when (ltb 27 long) 13) (never-ten net bs z)) ∙ e)
+
+    by-net : (r : ℕ) → refusal net ≡ r
+        → (r else when (outside (nodesOf net) i) 11 else tenRefusal net bs else when (isUnstarted (phase (network net) (steps bs) i)) 12 else when (ltb 27 long) 13) ≢ 13
+    by-net zero z e = by-node z (outside (nodesOf net) i) refl e
+    by-net (suc r) z e = omega (arith, small-network net)
+
 -- read back
-same : (net bs : List ℕ) (i : ℕ) (room : List ℕ) → writeRefusal net bs i (length room) ≡ 0 → (y : ℕ) → IsNode (nodesOf net) y
-    → readAnswer (entryRead one (take (length (fileAfter net bs i)) (writeRoom net bs i room)) y) ≡ entryAnswer net bs i y
-same net bs i room e y at =
-    let w = wrote net bs i (length room) e in
-    ap (λ (r : ℕ). readAnswer (entryRead one (take (length (fileAfter net bs i)) (unless r room (begins (fileAfter net bs i) room))) y)) e
-    ∙ ap (λ (s : List ℕ). readAnswer (entryRead one s y)) (take-at (fileAfter net bs i) (drop (length (fileAfter net bs i)) room) (length (fileAfter net bs i)) refl)
-    ∙ ap readAnswer (file-laws (network net) (w .accepted) .a-same-entries (steps bs) i (w .started) y at)
+same : (net bs : List ℕ) (i wide : ℕ) → writeRefusal net bs i wide ≡ 0 → (y : ℕ) → IsNode (nodesOf net) y
+    → readAnswer (entryRead one (fileAfter net bs i) y) ≡ entryAnswer net bs i y
+same net bs i wide e y at =
+    let w = wrote net bs i wide e in
+    ap readAnswer (file-laws (network net) (w .accepted) .a-same-entries (steps bs) i (w .started) y at)
     ∙ sym (answered net bs i y (beside net bs i y w at))
+
+-- the bytes of an arc list, in the room
+both-entries : (n lmax : ℕ) (ar : List Arc) (room : List ℕ) → listRefusal n lmax ar ≡ 0
+    → (refusal (take (size (length ar)) (packRoom n lmax ar room)) ≡ 0) × (network (take (size (length ar)) (packRoom n lmax ar room)) ≡ house n lmax ar)
+both-entries n lmax ar room e =
+    let is = ap (λ (r : ℕ). take (size (length ar)) (unless r room (begins (bytesOf n lmax ar) room))) e
+    ∙ take-at (bytesOf n lmax ar) (drop (length (bytesOf n lmax ar)) room) (size (length ar)) (length-packed (size (length ar)) (netBits n lmax ar)) in
+    subst (λ (s : List ℕ). (refusal s ≡ 0) × (network s ≡ house n lmax ar)) (sym is) (checks .list-as-bytes n lmax ar e)
 
 pub requirement2 : Requirement2
 requirement2 =
     record {
       right = right;
+      exactly = λ net bs i y e stop. method-laws (network net) .d-unreachable (asked net bs i y e .accepted .valid) (steps bs) i stop y;
       filled = filled;
-      exactly = exactly;
       progress = progress;
+      ends = ends;
       total = λ net bs. method-laws (network net) .g-total (steps bs) ∙ length-map bs byteStep;
+      way = way;
+      written = written;
+      fits = fits;
       same = same;
-      both-entries = checks .list-as-bytes;
+      both-entries = both-entries;
     }

@@ -16,6 +16,8 @@ use Rattle.method.specs.Entries.{Entry, unknown, unreachable, known, entry, pha
 use Rattle.method.proofs.Proved.{laws as method-laws}
 use Rattle.network.specs.Refusal.{outside}
 use Rattle.network.specs.Bytes.{network}
+use Rattle.network.specs.Bytes.{refusal as networkRefusal}
+use Rattle.network.proofs.Laws.{checks}
 use Rattle.network.proofs.Refused.{inside}
 use Rattle.table.specs.File.{one, hasStopped}
 use Rattle.table.specs.Reader.{Reading, entryIn, refusal, says, entryOf}
@@ -23,16 +25,20 @@ use Rattle.table.specs.Laws.{headFor, Laws}
 use Rattle.table.proofs.Proved.{laws as file-laws}
 use Rattle.calls.specs.Answers.{entryValues, readAnswer}
 use Rattle.calls.specs.Calls.{nodesOf, entryAfter, entryRefusal, entryAnswer, fileAfter}
-use Rattle.zaqfinell.specs.Requirement2.{Says}
-use Rattle.zaqfinell.specs.Requirement3.{cut, standing, Written, Requirement3}
+use Rattle.zaqfinell.specs.Requirement2.{IsSo}
+use Rattle.zaqfinell.specs.Requirement3.{cut, standing, CanBeWritten, Requirement3}
 use Rattle.zaqfinell.proofs.Asked.{asked, answered, Wrote, wrote, beside}
+
+stays : (net bs cs : List ℕ) (i y : ℕ) → networkRefusal net ≡ 0 → entryAfter net bs i y ≢ unknown → entryAfter net (bs ++ cs) i y ≡ entryAfter net bs i y
+stays net bs cs i y e filled =
+    ap (λ (l : List Step). entry (network net) l i y) (map-append byteStep bs cs)
+    ∙ method-laws (network net) .b-final (checks .bytes-accepted net e .valid) (steps bs) (steps cs) i y filled
 
 final : (net bs cs : List ℕ) (i y : ℕ) → entryRefusal net bs i y ≡ 0 → entryAfter net bs i y ≢ unknown → entryAnswer net (bs ++ cs) i y ≡ entryAnswer net bs i y
 final net bs cs i y e filled =
     let a = asked net bs i y e in
     answered net (bs ++ cs) i y a
-    ∙ ap (λ (l : List Step). entryValues (entry (network net) l i y)) (map-append byteStep bs cs)
-    ∙ ap entryValues (method-laws (network net) .b-final (a .accepted .valid) (steps bs) (steps cs) i y filled)
+    ∙ ap entryValues (stays net bs cs i y (a .taken) filled)
     ∙ sym (answered net bs i y a)
 
 agree : (net bs cs : List ℕ) (i y : ℕ) → entryRefusal net bs i y ≡ 0 → entryAfter net bs i y ≢ unknown → entryAfter net cs i y ≢ unknown
@@ -44,7 +50,7 @@ agree net bs cs i y e filled filled′ =
     ∙ sym (answered net cs i y a)
 
 -- of a file that was written, cut after byte c
-module _ (net bs : List ℕ) (i c y : ℕ) (written : Written net bs i) (far : 2 ≤ c) where
+module _ (net bs : List ℕ) (i c y : ℕ) (written : CanBeWritten net bs i) (far : 2 ≤ c) where
   wr : Wrote net bs i
   wr = wrote net bs i 27 written
 
@@ -80,7 +86,7 @@ module _ (net bs : List ℕ) (i c y : ℕ) (written : Written net bs i) (far : 2
   unreachable-whole : cut net bs i c y ≡ says unreachable → (length (fileAfter net bs i) ≤ c) × Stopped (network net) (steps bs) i
   unreachable-whole e = laws .b-unreachable (steps bs) i (wr .started) c behind y e
 
-  right : (e : Entry) → cut net bs i c y ≡ says e → Says (network net) i y e
+  right : (e : Entry) → cut net bs i c y ≡ says e → IsSo (network net) i y e
   right unknown is = tt
   right unreachable is = laws .c-no-chain (steps bs) i (wr .started) c behind y is
   right (known d h) is = laws .c-right (steps bs) i (wr .started) c behind y d h is
@@ -88,6 +94,7 @@ module _ (net bs : List ℕ) (i c y : ℕ) (written : Written net bs i) (far : 2
 pub requirement3 : Requirement3
 requirement3 =
     record {
+      stays = stays;
       final = final;
       agree = agree;
       own = λ net bs i c written far. own net bs i c i written far;

@@ -1,14 +1,14 @@
--- 01, "Refusal numbers": its rows in its words, and their order for each call. Nothing here is a test that a program makes.
+-- 01, "Refusal numbers": its rows in its words, and their order for each call. These are statements, not tests.
 -- Assumes nothing.
 use mathlib.Core.Path.{_≡_}
 use mathlib.Core.Logic.{_⊎_, _≢_}
-use mathlib.Core.Bool.{true}
-use mathlib.Core.List.{List, [], _∷_}
+use mathlib.Core.List.{List, [], _∷_, map}
 use Prim.Native.Nat.{ℕ, zero, suc, _+_, _-_, _*_, _%_, _≤_, _<_}
 use lib.ListN.{length}
 use Rattle.bits.specs.Bits.{bitsOf, field}
+use Rattle.method.specs.Distinct.{Among}
 use Rattle.method.specs.Network.{Arc, Net, IsNode, IsArc}
-use Rattle.method.specs.Rules.{Filled, unstarted, has}
+use Rattle.method.specs.Rules.{Filled, unstarted}
 use Rattle.method.specs.Steps.{sents, steps, run}
 use Rattle.method.specs.Entries.{phase, lastDistance}
 use Rattle.network.specs.Bytes.{version, nodes, lmax, fourth, count, arcs, network, size, padding}
@@ -67,14 +67,16 @@ abbrev pub listRows : ℕ → ℕ → List Arc → (ℕ → Type 0) → ℕ → 
 listRows n lmax ar rows =
     -- "arc list entry: n outside 1 to 16"
     19 given Outside 16 n else
+    -- "LMAX outside 1 to 15"
     3 given Outside 15 lmax else
+    -- "more than 240 arcs"
     4 given (240 < length ar) else arcRows n lmax [] ar rows
 
 -- "no room in a sent list": one of the nodes 1 to n has sent more than 257 messages
 abbrev pub NoRoom : Net → List ℕ → Type 0
 NoRoom net bs = (i : ℕ) × IsNode (net .n) i × (257 < length (sents (run net (steps bs)) i))
 
--- "Then 11, the run (10), 12, 13": for a whole run
+-- "Then 11, the run (10), 12, 13": a whole run asks for no node and writes no file
 abbrev pub runRows : List ℕ → List ℕ → ℕ → Type 0
 runRows net bs = byteRows net (10 given NoRoom (network net) bs else none)
 
@@ -99,11 +101,11 @@ writeRows net bs i long wide =
 pub data Wrong (h : Head) (seen : List Filled) (e : Filled) : Type 0 where
   targetOver : h .n < e .target → Wrong h seen e
   targetOwn : e .target ≡ h .own → Wrong h seen e
-  repeated : has (e .target) seen ≡ true → Wrong h seen e
+  repeated : Among (e .target) (map (λ r. r .target) seen) → Wrong h seen e
   hopOver : h .n < e .hop → Wrong h seen e
   hopOwn : e .hop ≡ h .own → Wrong h seen e
   steep : h .lmax < e .distance - lastDistance seen → Wrong h seen e
-  flat : length seen ≡ 0 → e .distance - lastDistance seen ≡ 0 → Wrong h seen e
+  flat : seen ≡ [] → e .distance - lastDistance seen ≡ 0 → Wrong h seen e
 
 -- "takes records while the next bit is 1 and 13 bits stand"
 abbrev pub Whole : List ℕ → ℕ → Type 0
