@@ -2,9 +2,10 @@
  *
  * Link with libzaqfinell.a. Each call takes numbers and buffers and gives one number. No call keeps anything, allocates anything or needs
  * to be set up, so calls may be made from several tasks at once. Lengths and contents may be anything: what is wrong is refused with its
- * number, and then nothing is written. Pointers are valid for their lengths and buffers do not overlap; one of length 0 may be NULL.
+ * number, and then nothing is written (zaq_house_table, whose text is its answer, writes the line). Pointers are valid for their lengths
+ * and buffers do not overlap; one of length 0 may be NULL.
  *
- * Stack, measured on x86-64: under 16 KiB for a call that runs steps, 124 bytes for zaq_read_entry (docs/BENCHMARKS.md has each).
+ * Stack, measured on x86-64: under 16 KiB for a call that runs steps, under 256 bytes for reading a file (docs/BENCHMARKS.md has each).
  */
 #ifndef ZAQFINELL_H
 #define ZAQFINELL_H
@@ -24,7 +25,7 @@ extern "C" {
  * Network bytes: 4 bits each: version 1, n - 1, LMAX, 0; 8 bits: the arc count; then for each arc 4 bits each: tail - 1, head - 1, length;
  * zero bits to the byte's end. The most significant bit is first. zaq_pack_network makes them of a list.
  *
- * A step is one byte. 0 to 15: start node byte + 1. 16 to 255: deliver the oldest undelivered message of arc byte - 16, counted from 0 in
+ * A step is one byte. 0 to 15: start node byte + 1. 16 to 255: deliver the oldest undelivered message of arc byte - 15, numbered from 1 in
  * the network's order. A step that names no node or arc is counted unknown; a second start, or a delivery where nothing is undelivered,
  * is counted idle; neither changes anything. All others are taken. A message that is delivered to a node before its start is kept.
  * A list of steps may have any length. A node that has stopped knows all that there is to know. While a node has not stopped some step
@@ -79,7 +80,7 @@ static inline uint32_t zaq_hop(uint32_t answer) { return answer >> 8 & 255; }
 /* How many nodes a route passes. */
 static inline uint32_t zaq_passed(uint32_t answer) { return answer >> 8 & 255; }
 
-/* How many numbers a call wrote into the room. */
+/* How many numbers a call wrote into the room (of a route: zaq_passed). */
 static inline uint32_t zaq_written(uint32_t answer) { return answer >> 8 & 65535; }
 
 /* ---- The firmware's three calls ---- */

@@ -8,7 +8,7 @@ ghost use Rattle.bits.specs.Window.{windowAt, threeBytes, replaced};
 
 // A byte in a type that holds three of them.
 fn wide(x: u8) -> u32
-    ensures { λ r. ⌜ r ≡ x ⌝ }
+    ensures { λ r. ⌜ (r ≡ x) × (r < 256) ⌝ }
 {
     x as u32
 }
@@ -45,6 +45,10 @@ fn window(s: &[u8], p: usize) -> u32
     ensures { λ r. ⌜ (r ≡ windowAt (now (s .entry)) (p / 8)) × (r < 16777216) ⌝ }
 {
     let k = p / 8;
+    // where all three stand, one test is enough
+    if k + 2 < s.len() {
+        return wide(s[k]) * 65536 + wide(s[k + 1]) * 256 + wide(s[k + 2]);
+    }
     byte(s, k) * 65536 + byte(s, k + 1) * 256 + byte(s, k + 2)
 }
 

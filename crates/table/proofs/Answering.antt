@@ -5,7 +5,7 @@ use mathlib.Core.Logic.{inl, inr}
 use mathlib.Core.List.{List, _∷_}
 use mathlib.Core.Bool.{Bool, true, false, cond, _||_}
 use mathlib.Core.Option.{Option, none, some}
-use Prim.Native.Nat.{ℕ, zero, suc, _≤_}
+use Prim.Native.Nat.{ℕ, _≤_}
 use native.Mathlib.Omega.{arith}
 use lib.Dec.{eqb, ltb}
 use borrow.Author.Tests.{ne-eqb}
@@ -14,23 +14,25 @@ use Rattle.method.specs.Rules.{Filled}
 use Rattle.method.specs.Entries.{known, find, said}
 use Rattle.method.specs.Marks.{distanceOf, noHop}
 use Rattle.method.proofs.Table.{In, Found, find-ok}
-use Rattle.table.specs.File.{Head, one}
-use Rattle.table.specs.Reader.{Taken, headAt, headFault, taken, phaseOf, told, readingBy, reading, refusal, says, entryOf, entryRead}
+use Rattle.table.specs.File.{Head, one, head}
+use Rattle.table.specs.Reader.{Taken, taken, phaseOf, told, refusal, says, entryOf, entryRead}
 use Rattle.table.specs.Calls.{answer}
-use Rattle.table.specs.Code.{distanceIn, hopIn, walked, lookedBy, looked, answered}
+use Rattle.table.specs.Code.{distanceIn, hopIn, Headed, walked, answered}
 use Rattle.table.specs.declared.Answer.the-variants.{Entry, Refused}
 use Rattle.table.specs.declared.Ending.{Ending}
+use Rattle.table.specs.declared.Header.{Header}
 use Rattle.table.specs.declared.Walked.{Walked}
 use Rattle.table.specs.declared.Ending.the-variants.{Unfinished, Marked, Faulty}
 use Rattle.table.proofs.Passed.{Passed}
 use Rattle.table.proofs.Walk.{taken-passed}
+use Rattle.table.proofs.SoundHeader.{reading-is}
 
 -- a record's first hop is not 0
 passed-hop : (h : Head) (es : List Filled) → Passed h es → (e : Filled) → In e es → 1 ≤ e .hop
 passed-hop h (x ∷ es) p e (inl q) = rw q (p .0 .sound .hop .0)
 passed-hop h (x ∷ es) p e (inr m) = passed-hop h es (p .1) e m
 
-answered-is : (t : ℕ) (h : Head) (w : Taken) → Passed h (w .records) → answered t (walked t h w) (w .ending) ≡ answer (entryOf (told h (w .records) (w .ending)) t)
+answered-is : (t : ℕ) (h : Head) (w : Taken) → Passed h (w .records) → answered (h .own) (h .n) t (walked t w) (w .ending) ≡ answer (entryOf (told h (w .records) (w .ending)) t)
 unfolding walked
 answered-is t h w p = by-ending (w .ending)
   where
@@ -49,19 +51,15 @@ answered-is t h w p = by-ending (w .ending)
     by-phase false false false none f = refl
     by-phase b false false (some e) f = rw (ne-eqb (e .hop) 0 (omega (arith, passed-hop h es p e (f .0))))
 
-    by-ending : (e : Ending) → answered t (walked t h w) e ≡ answer (entryOf (told h es e) t)
+    by-ending : (e : Ending) → answered (h .own) (h .n) t (walked t w) e ≡ answer (entryOf (told h es e) t)
     by-ending Unfinished = by-phase false (eqb t 0 || ltb (h .n) t) (eqb t (h .own)) (find t es) (find-ok t es)
     by-ending Marked = by-phase true (eqb t 0 || ltb (h .n) t) (eqb t (h .own)) (find t es) (find-ok t es)
     by-ending (Faulty r) = refl
 
--- of any bytes
-pub look-answers : (t : ℕ) (s : List ℕ) (w : Walked) (e : Ending) → w ≡ looked t s → w .ending ≡ e → answered t w e ≡ answer (entryRead one s t)
-unfolding looked reading walked
-look-answers t s w e ew ee = rw (← ee, ew) (go (headFault one (headAt one (bitsOf s)) s))
-  where
-    h : Head
-    h = headAt one (bitsOf s)
-
-    go : (r : ℕ) → answered t (lookedBy t (bitsOf s) h r) (lookedBy t (bitsOf s) h r .ending) ≡ answer (entryOf (readingBy one h (bitsOf s) r) t)
-    go zero = answered-is t h (taken one h (bitsOf s)) (taken-passed one h (bitsOf s))
-    go (suc r) = refl
+-- of bytes with a sound header
+pub scan-answers : (t : ℕ) (s : List ℕ) (h : Header) → Headed s h → (w : Walked) (e : Ending)
+    → w ≡ walked t (taken one (head (h .own) (h .n) (h .lmax)) (bitsOf s)) → w .ending ≡ e → answered (h .own) (h .n) t w e ≡ answer (entryRead one s t)
+unfolding walked
+scan-answers t s h d w e ew ee =
+    let H : Head = head (h .own) (h .n) (h .lmax) in
+    rw (← ee, ew, reading-is s h d) (answered-is t H (taken one H (bitsOf s)) (taken-passed one H (bitsOf s)))

@@ -8,9 +8,10 @@ pub mod Entries
 pub mod Node
 pub mod Proved
 pub mod Marks
+pub mod ByteRest
 pub mod Scanning
+pub mod SoundHeader
 pub mod Answering
-pub mod Header
 pub mod Pended
 pub mod Writing
 pub mod Listed

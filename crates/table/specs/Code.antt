@@ -1,6 +1,6 @@
 -- What the parts of the code answer, as the numbers that they hold.
 -- Assumes nothing.
-use Prim.Native.Nat.{ℕ, zero, suc, _+_, _-_, _*_, _/_, _%_, _^_}
+use Prim.Native.Nat.{ℕ, zero, suc, _+_, _-_, _*_, _/_, _%_, _^_, _≤_, _<_}
 use mathlib.Core.Path.{_≡_}
 use mathlib.Core.Bool.{Bool, true, false, _||_}
 use mathlib.Core.List.{List, [], _∷_, _++_}
@@ -9,16 +9,19 @@ use lib.ListN.{length, set, take, drop}
 use lib.Dec.{leb, ltb, eqb}
 use Rattle.bits.specs.Bits.{asBits, bitsOf, field}
 use Rattle.method.specs.If.{if_then_else_}
+use Rattle.method.specs.Network.{IsNode}
 use Rattle.method.specs.Rules.{Filled}
 use Rattle.method.specs.Entries.{find, lastDistance}
 use Rattle.method.specs.Marks.{unknownMark, unreachableMark, noHop}
-use Rattle.table.specs.File.{Form, Head, one, recordBits}
-use Rattle.table.specs.Reader.{Taken, headAt, headFault, afterZero, recordAt, taken}
+use Rattle.table.specs.File.{Form, one, head, recordBits}
+use Rattle.table.specs.Reader.{Taken, headAt, headFault, afterZero, recordAt}
 use Rattle.table.specs.declared.Answer.{Answer}
 use Rattle.table.specs.declared.Answer.the-variants.{Entry, Refused}
 use Rattle.table.specs.declared.Ending.{Ending}
 use Rattle.table.specs.declared.Ending.the-variants.{Unfinished, Marked, Faulty}
+use Rattle.table.specs.declared.Header.{Header}
 use Rattle.table.specs.declared.Walked.{Walked}
+use Rattle.table.specs.declared.Counted.{Counted}
 
 -- the 13 bits from bit p on, 0 where fewer stand
 unfoldable pub standing : List ℕ → ℕ → ℕ
@@ -46,22 +49,24 @@ abbrev pub hopIn : Option Filled → ℕ
 hopIn none = 0
 hopIn (some e) = e .hop
 
--- what a file tells: the node itself, n, how its records end, how many they are, and the distance and first hop of one of them
-abbrev pub endedWith : ℕ → ℕ → Ending → ℕ → ℕ → ℕ → Walked
-endedWith own n ending count distance hop = record { own = own; n = n; ending = ending; count = count; distance = distance; hop = hop }
+-- the bytes s have a sound header with these numbers
+pub record Headed (s : List ℕ) (h : Header) : Type 0 where
+  pub sound : headFault one (headAt one (bitsOf s)) s ≡ 0
+  pub same : headAt one (bitsOf s) ≡ head (h .own) (h .n) (h .lmax)
+  pub own : IsNode (h .n) (h .own)
+  pub small : (h .n ≤ 16) × (h .lmax < 16)
 
--- what a file with the header h and these records tells of target t
-unfoldable pub walked : ℕ → Head → Taken → Walked
-walked t h w = endedWith (h .own) (h .n) (w .ending) (length (w .records)) (distanceIn (find t (w .records))) (hopIn (find t (w .records)))
+-- what records tell that end so: the distance and the first hop of one of them
+abbrev pub toldBy : Ending → ℕ → ℕ → Walked
+toldBy ending distance hop = record { ending = ending; distance = distance; hop = hop }
 
--- by the fault of the header, 0 for none
-abbrev pub lookedBy : ℕ → List ℕ → Head → ℕ → Walked
-lookedBy t B h zero = walked t h (taken one h B)
-lookedBy t B h (suc r) = endedWith 0 0 (Faulty (suc r)) 0 0 0
+-- what the records taken tell of target t
+unfoldable pub walked : ℕ → Taken → Walked
+walked t w = toldBy (w .ending) (distanceIn (find t (w .records))) (hopIn (find t (w .records)))
 
--- what any bytes tell of target t
-unfoldable pub looked : ℕ → List ℕ → Walked
-looked t s = lookedBy t (bitsOf s) (headAt one (bitsOf s)) (headFault one (headAt one (bitsOf s)) s)
+-- how the records taken end, and how many they are
+unfoldable pub counted : Taken → Counted
+counted w = record { ending = w .ending; count = length (w .records) }
 
 -- the answer for target t where `absent` is what a missing record says
 abbrev pub answeredBy : ℕ → ℕ → ℕ → ℕ → ℕ → ℕ → Answer
@@ -71,11 +76,11 @@ answeredBy own n t absent distance hop =
     else if eqb hop 0 then Entry (record { 0 = absent }) noHop
     else Entry (record { 0 = distance }) hop
 
--- the answer for target t by how the records end
-abbrev pub answered : ℕ → Walked → Ending → Answer
-answered t w Unfinished = answeredBy (w .own) (w .n) t unknownMark (w .distance) (w .hop)
-answered t w Marked = answeredBy (w .own) (w .n) t unreachableMark (w .distance) (w .hop)
-answered t w (Faulty r) = Refused r
+-- the answer of node own of n for target t, by how the records end
+abbrev pub answered : ℕ → ℕ → ℕ → Walked → Ending → Answer
+answered own n t w Unfinished = answeredBy own n t unknownMark (w .distance) (w .hop)
+answered own n t w Marked = answeredBy own n t unreachableMark (w .distance) (w .hop)
+answered own n t w (Faulty r) = Refused r
 
 -- how many bytes a file has whose records end at bit p
 abbrev pub bytesFor : Bool → ℕ → ℕ

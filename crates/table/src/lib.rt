@@ -28,14 +28,24 @@ pub enum Ending {
     Faulty(u32),
 }
 
-// What a file tells: the node itself, n, how its records end, how many they are, and what the one for a target says.
-struct Walked {
+// The numbers of a file's header.
+struct Header {
     own: u32,
     n: u32,
+    lmax: u32,
+}
+
+// What the records of a file tell: how they end, and what the one for a target says, 0 and 0 where there is none.
+struct Walked {
     ending: Ending,
-    count: usize,
     distance: u16,
     hop: u16,
+}
+
+// How the records of a file end, and how many they are.
+struct Counted {
+    ending: Ending,
+    count: usize,
 }
 
 // 2 to the d.

@@ -1,6 +1,8 @@
 // Reading a table file: any bytes are refused with a number, or are entries.
 use super::Answer;
+use super::Counted;
 use super::Ending;
+use super::Header;
 use super::NO_HOP;
 use super::Outcome;
 use super::Walked;
@@ -10,24 +12,24 @@ ghost use mathlib.Core.Path.{_≡_};
 ghost use Prim.Native.Nat.{_+_, _-_, _*_, _/_, _%_, _^_, _≤_, _<_};
 ghost use lib.ListN.{length};
 ghost use lib.Dec.{eqb};
-ghost use Rattle.bits.specs.Bits.{bitsOf};
+ghost use Rattle.bits.specs.Bits.{bitsOf, field};
 ghost use Rattle.method.specs.If.{if_then_else_};
 ghost use Rattle.table.specs.File.{one, head};
 ghost use Rattle.table.specs.Reader.{headAt, headFault, wrongFields, taken, reading, entryRead};
 ghost use Rattle.table.specs.Calls.{answer, entriesOutcome, entriesRoom};
-ghost use Rattle.table.specs.Code.{standing, endingAt, firstRecords, endedWith, walked, looked, answeredBy};
+ghost use Rattle.table.specs.Code.{standing, endingAt, firstRecords, Headed, walked, counted, answeredBy};
 ghost use Rattle.table.specs.Listing.{withEntry, withAbsent, withRecords, Within, allOutcome, allRoom};
 
 // Target t has the bit of weight 2 ^ (t - 1).
-fn weight(t: u32) -> u16
+fn weight(t: u32) -> u32
     requires { ⌜ (1 ≤ t) × (t ≤ 16) ⌝ }
     ensures { λ r. ⌜ r ≡ 2 ^ (t - 1) ⌝ }
 {
-    power(t as usize - 1) as u16
+    power(t as usize - 1)
 }
 
 // Whether target t has its mark.
-fn is_marked(marks: u16, t: u32) -> bool
+fn is_marked(marks: u32, t: u32) -> bool
     requires { ⌜ (1 ≤ t) × (t ≤ 16) ⌝ }
     ensures { λ r. ⌜ r ≡ eqb (marks / 2 ^ (t - 1) % 2) 1 ⌝ }
 {
@@ -76,10 +78,22 @@ fn record_at(file: &[u8], p: usize) -> u32
     requires { ⌜ p ≤ 1024 ⌝ }
     ensures { λ r. ⌜ (r ≡ standing (bitsOf (now (file .entry))) p) × (r < 8192) ⌝ }
 {
+    // most records have three bytes: the test of bits::read, so that it is made once
+    if p / 8 + 2 < file.len() {
+        return bits::read(file, p, 13);
+    }
     if file.len() < (p + 20) / 8 {
         return 0;
     }
     bits::read(file, p, 13)
+}
+
+// The bits from bit p to its byte's end, with one index where bits::read looks at three bytes.
+fn rest_of_byte(file: &[u8], p: usize) -> u32
+    requires { ⌜ p < 8 * length (now file) ⌝ }
+    ensures { λ r. ⌜ r ≡ field (bitsOf (now (file .entry))) p (8 - p % 8) ⌝ }
+{
+    file[p / 8] as u32 % power(8 - p % 8)
 }
 
 // How the records end where none stands from bit p on.
@@ -90,10 +104,11 @@ fn ending_at(file: &[u8], p: usize) -> Ending
     if file.len() <= p / 8 {
         return Ending::Unfinished;
     }
-    if bits::read(file, p, 1) != 0 {
+    let x = rest_of_byte(file, p);
+    if power(7 - p % 8) <= x {
         return Ending::Unfinished;
     }
-    if bits::read(file, p + 1, 7 - p % 8) != 0 {
+    if x != 0 {
         return Ending::Faulty(18);
     }
     if p / 8 + 1 < file.len() {
@@ -112,48 +127,69 @@ fn chosen(t: u32, target: u32, a: u16, b: u16) -> u16
     b
 }
 
-// What a file tells whose records end so.
-fn ended(own: u32, n: u32, ending: Ending, count: usize, distance: u16, hop: u16) -> Walked
-    ensures { λ r. ⌜ r ≡ endedWith own n ending count distance hop ⌝ }
-{
-    Walked {
-        own,
-        n,
-        ending,
-        count,
-        distance,
-        hop,
-    }
-}
-
 // Takes the records of a file whose header is sound, and looks for target t in them.
 fn scan(file: &[u8], own: u32, n: u32, lmax: u32, t: u32) -> Walked
     requires { ⌜ (1 ≤ own) × (own ≤ n) × (n ≤ 16) × (lmax < 16) ⌝ }
-    ensures { λ r. ⌜ r ≡ walked t (head own n lmax) (taken one (head own n lmax) (bitsOf (now (file .entry)))) ⌝ }
+    ensures { λ r. ⌜ r ≡ walked t (taken one (head own n lmax) (bitsOf (now (file .entry)))) ⌝ }
 {
-    let mut k: usize = 0;
-    let mut marks: u16 = 0;
+    let mut p: usize = 16;
+    let mut marks: u32 = 0;
     let mut before: u32 = 0;
     let mut distance: u16 = 0;
     let mut hop: u16 = 0;
     loop {
-        let p = 16 + 13 * k;
         let x = record_at(file, p);
         if x < 4096 {
             let ending = ending_at(file, p);
-            return ended(own, n, ending, k, distance, hop);
+            return Walked {
+                ending,
+                distance,
+                hop,
+            };
         }
         let target = x / 256 % 16 + 1;
         let via = x / 16 % 16 + 1;
         let by = x % 16;
         let repeated = is_marked(marks, target);
-        if is_wrong(own, n, lmax, repeated, k == 0, target, via, by) {
-            return ended(own, n, Ending::Faulty(17), k, distance, hop);
+        if is_wrong(own, n, lmax, repeated, p == 16, target, via, by) {
+            return Walked {
+                ending: Ending::Faulty(17),
+                distance,
+                hop,
+            };
         }
         marks = marks + weight(target);
         before = before + by;
         distance = chosen(t, target, before as u16, distance);
         hop = chosen(t, target, via as u16, hop);
+        p += 13;
+    }
+}
+
+// Counts the records of a file whose header is sound: a walk of its own, so that scan has one caller only and the compiler sets it in
+// there.
+fn count(file: &[u8], own: u32, n: u32, lmax: u32) -> Counted
+    requires { ⌜ (1 ≤ own) × (own ≤ n) × (n ≤ 16) × (lmax < 16) ⌝ }
+    ensures { λ r. ⌜ r ≡ counted (taken one (head own n lmax) (bitsOf (now (file .entry)))) ⌝ }
+{
+    let mut k: usize = 0;
+    let mut marks: u32 = 0;
+    loop {
+        let p = 16 + 13 * k;
+        let x = record_at(file, p);
+        if x < 4096 {
+            let ending = ending_at(file, p);
+            return Counted { ending, count: k };
+        }
+        let y = x / 256 % 16 + 1;
+        let repeated = is_marked(marks, y);
+        if is_wrong(own, n, lmax, repeated, k == 0, y, x / 16 % 16 + 1, x % 16) {
+            return Counted {
+                ending: Ending::Faulty(17),
+                count: k,
+            };
+        }
+        marks = marks + weight(y);
         k += 1;
     }
 }
@@ -177,6 +213,18 @@ fn head_fault(file: &[u8]) -> u32
     0
 }
 
+// The numbers of a sound header.
+fn header(file: &[u8]) -> Header
+    requires { ⌜ headFault one (headAt one (bitsOf (now file))) (now file) ≡ 0 ⌝ }
+    ensures { λ h. ⌜ Headed (now (file .entry)) h ⌝ }
+{
+    Header {
+        own: bits::nibble(file, 1) + 1,
+        n: bits::nibble(file, 2) + 1,
+        lmax: bits::nibble(file, 3),
+    }
+}
+
 // The answer for target t, where absent is what a missing record says; first hop 0 is no record.
 fn entry_by(own: u32, n: u32, t: u32, absent: Distance, distance: u16, hop: u16) -> Answer
     ensures { λ r. ⌜ r ≡ answeredBy own n t (absent .0) distance hop ⌝ }
@@ -196,29 +244,20 @@ fn entry_by(own: u32, n: u32, t: u32, absent: Distance, distance: u16, hop: u16)
     Answer::Entry(Distance(distance), hop)
 }
 
-// What a file tells, with target t looked for in its records; refusals 14 to 16 come first.
-fn look(file: &[u8], t: u32) -> Walked
-    ensures { λ r. ⌜ r ≡ looked t (now (file .entry)) ⌝ }
-{
-    let fault = head_fault(file);
-    if fault != 0 {
-        return ended(0, 0, Ending::Faulty(fault), 0, 0, 0);
-    }
-    let own = bits::nibble(file, 1) + 1;
-    let n = bits::nibble(file, 2) + 1;
-    let lmax = bits::nibble(file, 3);
-    scan(file, own, n, lmax, t)
-}
-
 // The entry for a target in a table file. Refusals 14 to 18, then 11.
 pub fn read_entry(file: &[u8], target: u32) -> Answer
     ensures { λ r. ⌜ r ≡ answer (entryRead one (now (file .entry)) target) ⌝ }
 {
-    let w = look(file, target);
+    let fault = head_fault(file);
+    if fault != 0 {
+        return Answer::Refused(fault);
+    }
+    let h = header(file);
+    let w = scan(file, h.own, h.n, h.lmax, target);
     let ending = w.ending;
     match ending {
-        Ending::Unfinished => entry_by(w.own, w.n, target, Distance::UNKNOWN, w.distance, w.hop),
-        Ending::Marked => entry_by(w.own, w.n, target, Distance::UNREACHABLE, w.distance, w.hop),
+        Ending::Unfinished => entry_by(h.own, h.n, target, Distance::UNKNOWN, w.distance, w.hop),
+        Ending::Marked => entry_by(h.own, h.n, target, Distance::UNREACHABLE, w.distance, w.hop),
         Ending::Faulty(r) => Answer::Refused(r),
     }
 }
@@ -280,11 +319,16 @@ fn put_all(file: &[u8], own: u32, n: u32, count: usize, mark: u16, room: &mut [u
 pub fn read_entries(file: &[u8], room: &mut [u16]) -> Outcome
     ensures { λ r. ⌜ (r ≡ entriesOutcome (reading one (now (file .entry))) (now (room .entry))) × (now (room .exit) ≡ entriesRoom (reading one (now (file .entry))) (now (room .entry))) ⌝ }
 {
-    let w = look(file, 0);
+    let fault = head_fault(file);
+    if fault != 0 {
+        return Outcome::Refused(fault);
+    }
+    let h = header(file);
+    let w = count(file, h.own, h.n, h.lmax);
     let ending = w.ending;
     match ending {
-        Ending::Unfinished => put_all(file, w.own, w.n, w.count, Distance::UNKNOWN.0, room),
-        Ending::Marked => put_all(file, w.own, w.n, w.count, Distance::UNREACHABLE.0, room),
+        Ending::Unfinished => put_all(file, h.own, h.n, w.count, Distance::UNKNOWN.0, room),
+        Ending::Marked => put_all(file, h.own, h.n, w.count, Distance::UNREACHABLE.0, room),
         Ending::Faulty(r) => Outcome::Refused(r),
     }
 }

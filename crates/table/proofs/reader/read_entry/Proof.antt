@@ -1,13 +1,28 @@
--- `read_entry`: what the file tells, by how its records end.
-use mathlib.Core.Path.{_∙_}
+-- `read_entry`: the header's refusals, then what the records tell, by how they end.
+use mathlib.Core.Path.{sym, _∙_, ap}
+use Rattle.table.specs.Reader.{Reading, entryOf}
+use Rattle.table.specs.Calls.{answer}
 use Rattle.table.specs.declared.Ending.the-variants.{Unfinished, Marked, Faulty}
-use Rattle.table.proofs.Answering.{look-answers}
+use Rattle.table.proofs.SoundHeader.{fault-refuses}
+use Rattle.table.proofs.Answering.{scan-answers}
+use native.Mathlib.Omega.{arith}
 use borrow.Author.Needs.{needs}
 use Rattle.table.proofs.reader.read_entry.Statement.{statement}
 use Rattle.table.proofs.reader.read_entry.Tie as tie
 
-look-requires : tie.Need-look-requires
-look-requires c κs = search needs
+head-fault-requires : tie.Need-head-fault-requires
+head-fault-requires c κs = search needs
+
+returns : tie.Need-returns
+returns c = ap (λ (x : Reading). answer (entryOf x (c .before .before .before .args .target))) (sym (fault-refuses (c .before .before .before .args .file .now) _ (c .before .head-fault .ensures) (omega arith)))
+
+header-requires : tie.Need-header-requires
+header-requires c κs = sym (c .before .head-fault .ensures) ∙ omega arith
+
+scan-requires : tie.Need-scan-requires
+scan-requires c κs =
+    let d = c .header .ensures in
+    (d .own .0, d .own .1, d .small .0, d .small .1)
 
 enum-told : tie.Need-enum-told
 enum-told c = search needs
@@ -24,25 +39,28 @@ entry-by-requires-2 c κs = search needs
 enum-known-ending : tie.Need-enum-known-ending
 enum-known-ending c = search needs
 
-returns : tie.Need-returns
-returns c = c .entry-by .ensures ∙ look-answers (c .before .before .before .before .before .args .target) (c .before .before .before .before .before .args .file .now) _ Unfinished (c .before .before .before .look .ensures) (c .before .enum-told .given .1)
-
 returns-2 : tie.Need-returns-2
-returns-2 c = c .entry-by2 .ensures ∙ look-answers (c .before .before .before .before .before .args .target) (c .before .before .before .before .before .args .file .now) _ Marked (c .before .before .before .look .ensures) (c .before .enum-told2 .given .1)
+returns-2 c = c .entry-by .ensures ∙ scan-answers (c .before .before .before .before .before .before .before .before .args .target) (c .before .before .before .before .before .before .before .before .args .file .now) _ (c .before .before .before .before .header .ensures) _ Unfinished (c .before .before .before .scan .ensures) (c .before .enum-told .given .1)
 
 returns-3 : tie.Need-returns-3
-returns-3 c = look-answers (c .before .before .before .before .before .args .target) (c .before .before .before .before .before .args .file .now) _ (Faulty _) (c .before .before .before .look .ensures) (c .before .ending .given .1)
+returns-3 c = c .entry-by2 .ensures ∙ scan-answers (c .before .before .before .before .before .before .before .before .args .target) (c .before .before .before .before .before .before .before .before .args .file .now) _ (c .before .before .before .before .header .ensures) _ Marked (c .before .before .before .scan .ensures) (c .before .enum-told2 .given .1)
+
+returns-4 : tie.Need-returns-4
+returns-4 c = scan-answers (c .before .before .before .before .before .before .before .before .args .target) (c .before .before .before .before .before .before .before .before .args .file .now) _ (c .before .before .before .before .header .ensures) _ (Faulty _) (c .before .before .before .scan .ensures) (c .before .ending .given .1)
 
 pub read-entry-spec : {M : Type 1} → statement M
 read-entry-spec =
     tie.close
     (tie.spec
-    look-requires
+    head-fault-requires
+    returns
+    header-requires
+    scan-requires
     enum-told
     entry-by-requires
     enum-told-2
     entry-by-requires-2
     enum-known-ending
-    returns
     returns-2
-    returns-3)
+    returns-3
+    returns-4)

@@ -13,20 +13,32 @@ use Rattle.table.proofs.reader.record_at.Tie as tie
 add-if1 : tie.Need-add-if1
 add-if1 c = search needs
 
+read-requires : tie.Need-read-requires
+read-requires c κs = search needs
+
 returns : tie.Need-returns
 unfolding standing
 returns c =
-    let B = bitsOf (c .before .before .args .file .now) in
-    (simp (lt-ltb (length B) (c .before .before .args .p + 13) (omega (arith, length-bits (c .before .before .args .file .now)))), omega arith)
+    let B = bitsOf (c .before .before .before .args .file .now) in
+    (simp (le-ltb (length B) (c .before .before .before .args .p + 13) (omega (arith, length-bits (c .before .before .before .args .file .now)))) (c .read .ensures .0), omega (arith, c .read .ensures .1))
 
-read-requires : tie.Need-read-requires
-read-requires c κs = search needs
+add-if2 : tie.Need-add-if2
+add-if2 c = search needs
 
 returns-2 : tie.Need-returns-2
 unfolding standing
 returns-2 c =
     let B = bitsOf (c .before .before .before .args .file .now) in
-    (simp (le-ltb (length B) (c .before .before .before .args .p + 13) (omega (arith, length-bits (c .before .before .before .args .file .now)))) (c .read .ensures .0), omega (arith, c .read .ensures .1))
+    (simp (lt-ltb (length B) (c .before .before .before .args .p + 13) (omega (arith, length-bits (c .before .before .before .args .file .now)))), omega arith)
+
+read-requires-2 : tie.Need-read-requires-2
+read-requires-2 c κs = search needs
+
+returns-3 : tie.Need-returns-3
+unfolding standing
+returns-3 c =
+    let B = bitsOf (c .before .before .before .before .args .file .now) in
+    (simp (le-ltb (length B) (c .before .before .before .before .args .p + 13) (omega (arith, length-bits (c .before .before .before .before .args .file .now)))) (c .read2 .ensures .0), omega (arith, c .read2 .ensures .1))
 
 pub record-at-spec : {M : Type 1} → statement M
-record-at-spec = tie.close (tie.spec add-if1 returns read-requires returns-2)
+record-at-spec = tie.close (tie.spec add-if1 read-requires returns add-if2 returns-2 read-requires-2 returns-3)

@@ -1,29 +1,23 @@
 -- `scan`: a turn takes one record, by the laws of Scanning.
 use mathlib.Core.Path.{refl}
-use Prim.Native.Nat.{_-_, _*_, _≤_, _<_}
+use Prim.Native.Nat.{_-_}
 use Rattle.method.specs.Network.{IsNode}
-use Rattle.table.proofs.Scanning.{Going, going-start, going-few, going-marks, going-next, out-ends, out-wrong}
+use Rattle.table.proofs.Scanning.{Scan, scan-start, scan-ends, scan-wrong, scan-next, going-marks}
 use native.Mathlib.Omega.{arith}
 use borrow.Author.Needs.{needs}
 use Rattle.table.proofs.reader.scan.Statement.{statement}
 use Rattle.table.proofs.reader.scan.Tie as tie
 
 abbrev Inv-loop : tie.InvT-loop
-Inv-loop file own n lmax t k₀ marks₀ before₀ distance₀ hop₀ k marks before distance hop = Going own n lmax t file k marks before distance hop × (k < 16) × (before ≤ 15 * k)
+Inv-loop file own n lmax t p₀ marks₀ before₀ distance₀ hop₀ p marks before distance hop = Scan own n lmax t file p marks before distance hop
 
 abbrev μ-loop : tie.MeasureT-loop
-μ-loop file own n lmax t k₀ marks₀ before₀ distance₀ hop₀ k marks before distance hop = 16 - k
+μ-loop file own n lmax t p₀ marks₀ before₀ distance₀ hop₀ p marks before distance hop = 224 - p
 
 loop-holds : tie.Need-loop-holds Inv-loop μ-loop
 loop-holds c =
     let a = c .before .args in
-    (going-start (a .own) (a .n) (a .lmax) (a .t) (a .file .now), omega arith, omega arith)
-
-mul-p : tie.Need-mul-p Inv-loop μ-loop
-mul-p c = search needs
-
-add-p : tie.Need-add-p Inv-loop μ-loop
-add-p c = search needs
+    scan-start (a .own) (a .n) (a .lmax) (a .t) (a .file .now)
 
 record-at-requires : tie.Need-record-at-requires Inv-loop μ-loop
 record-at-requires c κs = search needs
@@ -31,13 +25,10 @@ record-at-requires c κs = search needs
 ending-at-requires : tie.Need-ending-at-requires Inv-loop μ-loop
 ending-at-requires c κs = search needs
 
-ended-requires : tie.Need-ended-requires Inv-loop μ-loop
-ended-requires c κs = search needs
-
 returns : tie.Need-returns Inv-loop μ-loop
 returns c =
-    let own : IsNode (c .before .before .before .before .before .before .args .n) (c .before .before .before .before .before .before .args .own) = (omega arith, omega arith) in
-    out-ends own (c .before .before .before .before .loop .inv .0) _ _ _ (c .before .before .before .record-at .ensures .0) (omega arith) (c .before .ending-at .ensures) (c .ended .ensures)
+    let own : IsNode (c .before .before .before .before .before .args .n) (c .before .before .before .before .before .args .own) = (omega arith, omega arith) in
+    scan-ends own (c .before .before .before .loop .inv) _ _ (c .before .before .record-at .ensures .0) (omega arith) (c .ending-at .ensures)
 
 add-target : tie.Need-add-target Inv-loop μ-loop
 add-target c = search needs
@@ -51,13 +42,10 @@ is-marked-requires c κs = search needs
 is-wrong-requires : tie.Need-is-wrong-requires Inv-loop μ-loop
 is-wrong-requires c κs = search needs
 
-ended-requires-2 : tie.Need-ended-requires-2 Inv-loop μ-loop
-ended-requires-2 c κs = search needs
-
 returns-2 : tie.Need-returns-2 Inv-loop μ-loop
 returns-2 c =
-    let own : IsNode (c .before .before .before .before .before .before .before .before .args .n) (c .before .before .before .before .before .before .before .before .args .own) = (omega arith, omega arith) in
-    out-wrong own (c .before .before .before .before .before .before .loop .inv .0) _ _ _ (c .before .before .before .before .before .record-at .ensures .0) (omega arith) (c .before .before .before .is-marked .ensures) (c .before .before .is-wrong .ensures) _ (c .before .if2 .taken) (c .ended2 .ensures)
+    let own : IsNode (c .before .before .before .before .before .before .before .args .n) (c .before .before .before .before .before .before .before .args .own) = (omega arith, omega arith) in
+    scan-wrong own (c .before .before .before .before .before .loop .inv) _ _ _ (c .before .before .before .before .record-at .ensures .0) (omega arith) (c .before .before .is-marked .ensures) (c .before .is-wrong .ensures) (c .if2 .taken)
 
 weight-requires : tie.Need-weight-requires Inv-loop μ-loop
 weight-requires c κs = search needs
@@ -65,8 +53,8 @@ weight-requires c κs = search needs
 add-marks : tie.Need-add-marks Inv-loop μ-loop
 add-marks c =
     let own : IsNode (c .before .before .before .before .before .before .before .before .args .n) (c .before .before .before .before .before .before .before .before .args .own) = (omega arith, omega arith) in
-    let g = going-next own (c .before .before .before .before .before .before .loop .inv .0) _ _ _ (c .before .before .before .before .before .record-at .ensures .0) (omega arith) (c .before .before .before .is-marked .ensures) (c .before .before .is-wrong .ensures) _ _ _ (c .before .if2 .left) (c .weight .ensures) refl refl in
-    record { fits = going-marks own g (omega arith) }
+    let g = scan-next own (c .before .before .before .before .before .before .loop .inv) _ _ _ (c .before .before .before .before .before .record-at .ensures .0) (omega arith) (c .before .before .before .is-marked .ensures) (c .before .before .is-wrong .ensures) _ _ _ (omega arith) (c .before .if2 .left) (c .weight .ensures) refl refl in
+    record { fits = omega (arith, going-marks own (g .going) (omega arith)) }
 
 add-before : tie.Need-add-before Inv-loop μ-loop
 add-before c = search needs
@@ -83,8 +71,8 @@ cast-chosen-2 c = search needs
 chosen-requires-2 : tie.Need-chosen-requires-2 Inv-loop μ-loop
 chosen-requires-2 c κs = search needs
 
-add-k : tie.Need-add-k Inv-loop μ-loop
-add-k c = search needs
+add-p : tie.Need-add-p Inv-loop μ-loop
+add-p c = search needs
 
 loop-less : tie.Need-loop-less Inv-loop μ-loop
 loop-less c = search needs
@@ -92,8 +80,7 @@ loop-less c = search needs
 loop-again : tie.Need-loop-again Inv-loop μ-loop
 loop-again c =
     let own : IsNode (c .before .before .before .before .before .before .before .before .before .before .args .n) (c .before .before .before .before .before .before .before .before .before .before .args .own) = (omega arith, omega arith) in
-    let g = going-next own (c .before .before .before .before .before .before .before .before .loop .inv .0) _ _ _ (c .before .before .before .before .before .before .before .record-at .ensures .0) (omega arith) (c .before .before .before .before .before .is-marked .ensures) (c .before .before .before .before .is-wrong .ensures) _ _ _ (c .before .before .before .if2 .left) (c .before .before .weight .ensures) (c .before .chosen .ensures) (c .chosen2 .ensures) in
-    (g, omega (arith, going-few own g), omega arith)
+    scan-next own (c .before .before .before .before .before .before .before .before .loop .inv) _ _ _ (c .before .before .before .before .before .before .before .record-at .ensures .0) (omega arith) (c .before .before .before .before .before .is-marked .ensures) (c .before .before .before .before .is-wrong .ensures) _ _ _ (omega arith) (c .before .before .before .if2 .left) (c .before .before .weight .ensures) (c .before .chosen .ensures) (c .chosen2 .ensures)
 
 pub scan-spec : {M : Type 1} → statement M
 scan-spec =
@@ -102,17 +89,13 @@ scan-spec =
     Inv-loop
     μ-loop
     loop-holds
-    mul-p
-    add-p
     record-at-requires
     ending-at-requires
-    ended-requires
     returns
     add-target
     add-via
     is-marked-requires
     is-wrong-requires
-    ended-requires-2
     returns-2
     weight-requires
     add-marks
@@ -121,6 +104,6 @@ scan-spec =
     chosen-requires
     cast-chosen-2
     chosen-requires-2
-    add-k
+    add-p
     loop-less
     loop-again)
