@@ -23,6 +23,6 @@ for source in reference reference_run; do $compile -O2 -c "tests/outside/$source
 echo "the library against plain C, $(${CC:-cc} --version | head -n 1); load when it began: $(cut -d ' ' -f 1 /proc/loadavg)"
 echo "a ratio is the middle of 101 rounds, the middle half of them in brackets"
 for program in check run write read stack; do
-    $compile -O2 -pthread "bench/$program.c" "${parts[@]}" "$library" -o "$out/$program"
+    $compile -O2 "bench/$program.c" "${parts[@]}" "$library" -o "$out/$program"
     "$out/$program"
 done

@@ -1,80 +1,75 @@
-/* The most stack that each call takes, measured: a thread makes the call on a stack that was filled with a pattern before. */
-#define _POSIX_C_SOURCE 200809L
+/* The most stack that each call takes, measured: all below the caller's own frame is filled with a pattern, then the call is made. */
 #include "houses.h"
 #include "../include/zaqfinell.h"
-#include <pthread.h>
 #include <stdio.h>
-#include <stdlib.h>
 #include <string.h>
 
-enum { STACK = 1 << 20, PATTERN = 0xA5, WHOLE_CALL = 16384, READ_CALL = 256, STATE_ARRAY = 12886 };
+enum { NET_ARCS = 240, REACH = 1 << 16, PATTERN = 0xA5, WHOLE_CALL = 16384, READ_CALL = 256, STATE_ARRAY = 12886 };
 
-static uint8_t *stack;
 static struct house house; /* a house of sixteen in which everybody hears everybody, with all the steps of a whole run */
 static uint8_t input[NET_ROOM + STEP_ROOM], text[ZAQ_HOUSE_TABLE_ROOM], file[ZAQ_FILE_ROOM], way[ZAQ_ROUTE_ROOM];
 static uint16_t table[ZAQ_TABLE_ROOM], entries[16][16][2];
 static uint64_t counts[4];
+static zaq_arc arcs[NET_ARCS];
+static uint8_t packed[ZAQ_NETWORK_ROOM];
 static volatile size_t sink;
 
 #define RUN house.net, house.net_len, house.steps, house.steps_len
 
-static void *nothing(void *arg)
+static void nothing(void)
 {
-    return arg;
+    sink = 0;
 }
 
-static void *check_network(void *arg)
+static void check_network(void)
 {
     sink = zaq_check_network(house.net, house.net_len);
-    return arg;
 }
 
-static void *run(void *arg)
+static void run(void)
 {
     sink = zaq_run(RUN, counts, entries);
-    return arg;
 }
 
-static void *entry(void *arg)
+static void entry(void)
 {
     sink = zaq_entry(RUN, 1, 16);
-    return arg;
 }
 
-static void *route(void *arg)
+static void route(void)
 {
     sink = zaq_route(RUN, 1, 16, way);
-    return arg;
 }
 
-static void *write_table(void *arg)
+static void write_table(void)
 {
     sink = zaq_write_table(RUN, 1, file, sizeof file);
-    return arg;
 }
 
-static void *house_table(void *arg)
+static void house_table(void)
 {
     sink = zaq_house_table(input, house.net_len + house.steps_len, text);
-    return arg;
 }
 
-static void *read_entry(void *arg)
+static void read_entry(void)
 {
     sink = zaq_read_entry(house.file[0], house.file_len[0], 16);
-    return arg;
 }
 
-static void *read_table(void *arg)
+static void read_table(void)
 {
     sink = zaq_read_table(house.file[0], house.file_len[0], table, ZAQ_TABLE_ROOM);
-    return arg;
+}
+
+static void pack_network(void)
+{
+    sink = zaq_pack_network(16, 15, arcs, NET_ARCS, packed);
 }
 
 /* In the order of the table; 0 is wanted where nothing is said. */
 static const struct {
     const char *name;
-    void *(*call)(void *);
+    void (*call)(void);
     size_t wanted;
 } calls[] = {
     {"zaq_check_network", check_network, 0},
@@ -85,24 +80,31 @@ static const struct {
     {"zaq_house_table", house_table, WHOLE_CALL},
     {"zaq_read_entry", read_entry, READ_CALL},
     {"zaq_read_table", read_table, READ_CALL},
+    {"zaq_pack_network", pack_network, 0},
 };
 
-static size_t used(void *(*call)(void *))
+/* What a call touches below this frame. No call stands between the filling and the counting but the one that is measured. */
+static __attribute__((noinline)) size_t used(void (*call)(void))
 {
-    pthread_attr_t attr;
-    pthread_t thread;
-    call(NULL); /* the dynamic linker looks memset and memcpy up at their first call, and takes 3 KB of stack for it */
-    memset(stack, PATTERN, STACK);
-    pthread_attr_init(&attr);
-    pthread_attr_setstack(&attr, stack, STACK);
-    if (pthread_create(&thread, &attr, call, NULL) != 0)
-        exit(1);
-    pthread_join(thread, NULL);
-    pthread_attr_destroy(&attr);
-    size_t clean = 0;
-    while (clean < STACK && stack[clean] == PATTERN)
-        clean++;
-    return STACK - clean;
+    volatile uint8_t *here;
+    __asm__ volatile("mov %%rsp, %0" : "=r"(here));
+    for (volatile uint8_t *p = here - REACH; p < here; p++)
+        *p = PATTERN;
+    call();
+    volatile uint8_t *lowest = here - REACH;
+    while (lowest < here && *lowest == PATTERN)
+        lowest++;
+    return (size_t)(here - lowest);
+}
+
+/* Every arc that a house of sixteen can have. */
+static void build_arcs(void)
+{
+    size_t k = 0;
+    for (uint8_t tail = 1; tail <= 16; tail++)
+        for (uint8_t head = 1; head <= 16; head++)
+            if (tail != head)
+                arcs[k++] = (zaq_arc){tail, head, 15};
 }
 
 int main(void)
@@ -111,12 +113,12 @@ int main(void)
     build_steps(&house, ANY_ARC, STEP_ROOM);
     memcpy(input, house.net, house.net_len);
     memcpy(input + house.net_len, house.steps, house.steps_len);
-    if (posix_memalign((void **)&stack, 4096, STACK) != 0)
-        return 1;
-    size_t thread = used(nothing); /* what the thread itself takes */
+    build_arcs();
+    size_t caller = used(nothing); /* what a function around the call takes */
     printf("\n%-30s %10s   wanted: at most\n", "stack of a call", "bytes");
     for (size_t k = 0; k < sizeof calls / sizeof *calls; k++) {
-        size_t bytes = used(calls[k].call) - thread;
+        calls[k].call(); /* the dynamic linker takes 3 KB of stack when it looks memset up, at the first call */
+        size_t bytes = used(calls[k].call) - caller;
         printf("%-30s %10zu", calls[k].name, bytes);
         if (calls[k].wanted)
             printf("   %zu%s", calls[k].wanted, bytes > calls[k].wanted ? " OVER" : "");

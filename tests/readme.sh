@@ -11,4 +11,7 @@ verdict 'its program compiles' \
     "${CC:-cc}" -std=c99 -Wall -Wextra -Werror -Iinclude target/readme/program.c target/staticlib/libzaqfinell.a -o target/readme/program
 verdict 'its program says the distance of 01 for that house' test "$(target/readme/program)" = 'distance 1 by 2'
 
+# a word in capitals alone on a line is a place that somebody meant to fill
+verdict 'no document has an unfilled place' test -z "$(grep -lE '^[A-Z]+$' README.md docs/*.md)"
+
 closing_line
