@@ -4,7 +4,7 @@
 set -eu
 cd "$(dirname "$0")/.."
 library=${LIBRARY:-target/staticlib/libzaqfinell.a}
-[ -n "${LIBRARY:-}" ] || rt staticlib zaqfinell > /dev/null
+[ -n "${LIBRARY:-}" ] || bash tools/library.sh
 out=target/bench
 mkdir -p "$out"
 compile="${CC:-cc} -std=c99 -Wall -Wextra -Werror"

@@ -5,6 +5,7 @@
  * Writes node 1's table to FILE, reads it back, cuts FILE to its first KEEP bytes (4 if not given), and reads it again. */
 #define _POSIX_C_SOURCE 200809L /* truncate */
 #include "zaqfinell.h"
+#include "zaqfinell_words.h"
 #include <errno.h>
 #include <stdio.h>
 #include <stdlib.h>
@@ -20,12 +21,12 @@ enum { ARCS = 4, ROUNDS = 30 };
 static const char usage[] = "usage: table_file FILE [KEEP]\n"
                             "Writes node 1's table to FILE, reads it, cuts it to KEEP bytes (4 if not given), reads it again.\n";
 
-/* Tells what was refused, on standard error; the number's meaning is in zaqfinell.h. */
+/* Tells what was refused, on standard error. */
 static int refused(const char *what, uint32_t answer)
 {
     if (zaq_refusal(answer) == 0)
         return 0;
-    fprintf(stderr, "%s: refused with number %u, see zaqfinell.h\n", what, (unsigned)zaq_refusal(answer));
+    fprintf(stderr, "%s: refused %u: %s\n", what, (unsigned)zaq_refusal(answer), zaq_words(zaq_refusal(answer)));
     return 1;
 }
 

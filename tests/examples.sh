@@ -1,21 +1,30 @@
 #!/usr/bin/env bash
-# The C programs of examples/, compiled without a warning against the header and the static library, and run: what they print is document
-# 01's network Q, P4 and P7 to P9. Then once more under valgrind or, where there is none, with the compiler's sanitizers.
+# The C programs of examples/, compiled without a warning against the header and the static library, and run: what table_file prints is
+# document 01's network Q, P4 and P7 to P9. Then once more under valgrind or, where there is none, with the compiler's sanitizers.
 # usage: examples.sh [LIBRARY]    a library other than the one that is built here
 . "$(dirname "$0")/verdict.sh"
 
 folder=target/examples
 mkdir -p "$folder"
-rm -f "$folder"/*
+rm -rf "${folder:?}"/*
 library=${1:-target/staticlib/libzaqfinell.a}
-if [ $# -eq 0 ]; then verdict 'the static library is built' rt staticlib zaqfinell > /dev/null; fi
+if [ $# -eq 0 ]; then verdict 'the static library is built' bash tools/library.sh; fi
 
-build() { # build PROGRAM FLAG..
-    local program=$1
+build() { # build FOLDER FLAG..: both programs
+    local into=$1 program
     shift
-    verdict "$program compiles" \
-        "${CC:-cc}" -std=c99 -Wall -Wextra -Wpedantic -Werror "$@" -Iinclude examples/table_file.c "$library" -o "$folder/$program"
+    mkdir -p "$into"
+    for program in table_file routes; do
+        verdict "$program compiles" \
+            "${CC:-cc}" -std=c99 -Wall -Wextra -Wpedantic -Werror "$@" -Iinclude "examples/$program.c" "$library" -o "$into/$program"
+    done
 }
+
+# by hand: the soundbar's way to the kitchen is 2 + 3, the repeater's 1 + 4, and of equals the lower number goes first
+routes='television -> soundbar: distance 2
+television -> repeater: distance 1
+television -> soundbar -> kitchen: distance 5
+television to attic: no way'
 
 # what the file says when it has this many bytes
 said() {
@@ -69,18 +78,25 @@ try_all() {
     verdict 'no name at all' complains 1 ': ' ''
 }
 
-build table_file -O2
-run=("$folder/table_file")
+build "$folder/plain" -O2
+run=("$folder/plain/table_file")
 try_all
+run=("$folder/plain/routes")
+verdict 'the routes' prints "$routes"
 
 if command -v valgrind > /dev/null; then
     echo 'once more under valgrind'
-    run=(valgrind -q --error-exitcode=99 --leak-check=full "$folder/table_file")
+    again=(valgrind -q --error-exitcode=99 --leak-check=full)
+    programs=$folder/plain
 else
     echo 'no valgrind found: once more with -fsanitize=address,undefined'
-    build sanitized -g -fsanitize=address,undefined -fno-sanitize-recover
-    run=("$folder/sanitized")
+    again=()
+    programs=$folder/sanitized
+    build "$programs" -g -fsanitize=address,undefined -fno-sanitize-recover
 fi
+run=("${again[@]}" "$programs/table_file")
 try_all
+run=("${again[@]}" "$programs/routes")
+verdict 'the routes once more' prints "$routes"
 
 closing_line

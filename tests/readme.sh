@@ -6,7 +6,7 @@ mkdir -p target/readme
 rm -f target/readme/program
 sed -n '/^```c$/,/^```$/p' README.md | sed '/^```/d' > target/readme/program.c
 verdict 'it has a C program' test -s target/readme/program.c
-verdict 'the static library is built' rt staticlib zaqfinell > /dev/null
+verdict 'the static library is built' bash tools/library.sh
 verdict 'its program compiles' \
     "${CC:-cc}" -std=c99 -Wall -Wextra -Werror -Iinclude target/readme/program.c target/staticlib/libzaqfinell.a -o target/readme/program
 verdict 'its program says the distance of 01 for that house' test "$(target/readme/program)" = 'distance 1 by 2'

@@ -4,9 +4,7 @@
 set -eu
 cd "$(dirname "$0")/.."
 library=${ZAQ_LIBRARY:-target/staticlib/libzaqfinell.a}
-if [ -z "${ZAQ_LIBRARY:-}" ]; then
-    log=$(rt staticlib zaqfinell 2>&1) || { echo "$log" >&2 && exit 1; }
-fi
+[ -n "${ZAQ_LIBRARY:-}" ] || bash tools/library.sh
 mkdir -p target/tools
 
 build() { # build NAME SOURCE..

@@ -11,7 +11,7 @@ use Rattle.method.specs.Distance.{FirstHop}
 use Rattle.method.specs.Entries.{Entry, unknown, unreachable, known}
 use Rattle.method.specs.Marks.{distanceOf, hopOf}
 use Rattle.method.proofs.Proved.{laws as method-laws}
-use Rattle.network.specs.Room.{unless, begins}
+use Rattle.network.specs.Room.{keptIf, begins}
 use Rattle.network.specs.Layout.{netOf}
 use Rattle.network.proofs.Refused.{second, first, kept}
 use Rattle.cells.specs.Part.{Part, entryCount, stateOf}
@@ -124,5 +124,5 @@ module _ (net bs : List ℕ) (m : ℕ → Part) (i y : ℕ) (q : Ready net bs m 
           ∙ ap₂ values (ek ∙ ap nodesOn ew ∙ nodes-passed e xs ∙ ap length same-nodes) (ed ∙ ap distanceOf same-entry)
           ∙ sym (second (entryRefusal net bs i y) (values (length (nodesPassed net bs i y)) (distanceOf (entryAfter net bs i y))) (sym is ∙ z)),
       eroom ∙ room-begins e xs room ∙ ap (λ (l : List ℕ). begins l room) same-nodes
-          ∙ ap (λ (n : ℕ). unless n room (begins (nodesPassed net bs i y) room)) (sym (sym is ∙ z)),
+          ∙ ap (λ (n : ℕ). keptIf n room (begins (nodesPassed net bs i y) room)) (sym (sym is ∙ z)),
     )

@@ -11,12 +11,12 @@ use Rattle.method.specs.Steps.{State, Counts, steps, run, counts, refused10}
 use Rattle.method.specs.Entries.{Entry, unknown, unreachable, known, phase, entry}
 use Rattle.method.specs.Marks.{distanceOf}
 use Rattle.network.specs.Refusal.{when, _else_, outside}
-use Rattle.network.specs.Room.{unless, begins}
+use Rattle.network.specs.Room.{keptIf, begins}
 use Rattle.network.specs.Bytes.{network, refusal}
 use Rattle.entries.specs.Read.{stoppedTo}
 use Rattle.route.specs.Route.{route}
 use Rattle.table.specs.File.{one}
-use Rattle.table.specs.Laws.{nodeFile}
+use Rattle.table.specs.File.{nodeFile}
 use Rattle.calls.specs.Answers.{values, entryValues, withRows}
 
 -- the number of nodes
@@ -54,10 +54,10 @@ countsAfter net bs = countList (countsOf net bs) (stoppedOf net bs)
 
 -- the two rooms of the call: the counts, and the entries of every node
 abbrev pub countsRoom : List ℕ → List ℕ → List ℕ → List ℕ
-countsRoom net bs room = unless (runRefusal net bs) room (begins (countsAfter net bs) room)
+countsRoom net bs room = keptIf (runRefusal net bs) room (begins (countsAfter net bs) room)
 
 abbrev pub entriesRoom : List ℕ → List ℕ → List ℕ → List ℕ
-entriesRoom net bs room = unless (runRefusal net bs) room (withRows (entryAfter net bs) (nodesOf net) (nodesOf net) room)
+entriesRoom net bs room = keptIf (runRefusal net bs) room (withRows (entryAfter net bs) (nodesOf net) (nodesOf net) room)
 
 -- One entry: "Then 11, the run (10)"; 11 is for the node and for the target.
 abbrev pub entryRefusal : List ℕ → List ℕ → ℕ → ℕ → ℕ
@@ -80,7 +80,7 @@ abbrev pub routeAnswer : List ℕ → List ℕ → ℕ → ℕ → ℕ
 routeAnswer net bs i y = entryRefusal net bs i y else values (length (nodesPassed net bs i y)) (distanceOf (entryAfter net bs i y))
 
 abbrev pub routeRoom : List ℕ → List ℕ → ℕ → ℕ → List ℕ → List ℕ
-routeRoom net bs i y room = unless (entryRefusal net bs i y) room (begins (nodesPassed net bs i y) room)
+routeRoom net bs i y room = keptIf (entryRefusal net bs i y) room (begins (nodesPassed net bs i y) room)
 
 -- "run and write one node's file": "Then 11, the run (10), 12, 13", in a room of `wide` bytes
 abbrev pub isUnstarted : Phase → Bool
@@ -104,4 +104,4 @@ abbrev pub writeAnswer : List ℕ → List ℕ → ℕ → List ℕ → ℕ
 writeAnswer net bs i room = writeRefusal net bs i (length room) else values (length (fileAfter net bs i)) 0
 
 abbrev pub writeRoom : List ℕ → List ℕ → ℕ → List ℕ → List ℕ
-writeRoom net bs i room = unless (writeRefusal net bs i (length room)) room (begins (fileAfter net bs i) room)
+writeRoom net bs i room = keptIf (writeRefusal net bs i (length room)) room (begins (fileAfter net bs i) room)

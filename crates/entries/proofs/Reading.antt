@@ -23,7 +23,8 @@ use Rattle.cells.specs.Part.{Part, entryAt, tableFrom, phaseOf, nodeOf, siteOf,
 use Rattle.cells.specs.Caches.{Marks}
 use Rattle.cells.proofs.Lists.{table-length}
 use Rattle.run.specs.Ran.{Ran}
-use Rattle.entries.specs.Read.{atEnd, isStopped, stoppedTo, entryOf, filledFirst}
+use Rattle.entries.specs.Read.{atEnd, isStopped, stoppedTo, entryOf}
+use Rattle.entries.specs.Filled.{filledFirst}
 
 -- the phase
 pub stopped-is : (p : ℕ) → ltb 1 p ≡ atEnd (phaseOf p)

@@ -8,7 +8,8 @@ ghost use Rattle.method.specs.Marks.{distanceOf, hopOf};
 ghost use Rattle.method.specs.Entries.{others};
 ghost use Rattle.cells.specs.Part.{cells, stateSize, entryCount, stateOf};
 ghost use Rattle.cells.specs.Caches.{Marks};
-ghost use Rattle.entries.specs.Read.{isStopped, stoppedTo, entryOf, filledFirst, filledOf};
+ghost use Rattle.entries.specs.Read.{isStopped, stoppedTo, entryOf};
+ghost use Rattle.entries.specs.Filled.{filledFirst, filledOf};
 use cells::*;
 use method::Distance;
 

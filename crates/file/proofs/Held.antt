@@ -13,8 +13,9 @@ use Rattle.network.specs.Layout.{netOf}
 use Rattle.cells.specs.Part.{cells, stateSize, entryCount, entryAt, siteOf}
 use Rattle.entries.specs.Read.{isStopped}
 use Rattle.table.specs.File.{one, fileOf}
-use Rattle.table.specs.Laws.{headFor}
-use Rattle.table.specs.Calls.{rows, given, outcome, roomAfter}
+use Rattle.table.specs.File.{headFor}
+use Rattle.table.specs.Calls.{outcome, roomAfter}
+use Rattle.table.specs.Lent.{rows, given}
 use Rattle.table.specs.declared.Outcome.{Outcome}
 use Rattle.file.specs.Filing.{behindFirst, heldFile}
 

@@ -8,7 +8,8 @@ use Rattle.method.specs.Marks.{distanceOf, hopOf}
 use Rattle.method.specs.declared.Distance.{Distance}
 use Rattle.table.specs.File.{one}
 use Rattle.table.specs.Reader.{reading, Read, refusal, says, entryRead}
-use Rattle.table.specs.Calls.{answer, entriesOutcome}
+use Rattle.table.specs.Calls.{entriesOutcome}
+use Rattle.table.specs.Lent.{answer}
 use Rattle.table.specs.declared.Answer.{Answer}
 use Rattle.table.specs.declared.Answer.the-variants.{Entry, Refused}
 use Rattle.table.specs.declared.Outcome.{Outcome}

@@ -23,7 +23,7 @@ use Rattle.run.specs.Ran.{Ran}
 use Rattle.entries.specs.Read.{atEnd}
 use Rattle.entries.proofs.Reading.{ran-records}
 use Rattle.table.specs.File.{one, fileOf, hasStopped}
-use Rattle.table.specs.Laws.{headFor, nodeFile}
+use Rattle.table.specs.File.{headFor, nodeFile}
 use Rattle.file.specs.Filing.{behindFirst, heldFile}
 
 -- what puts node i's own entry first: it is there once, it alone has distance 0, and distances rise

@@ -14,7 +14,7 @@ use Rattle.method.specs.Rules.{Phase, unstarted, started, stopped}
 use Rattle.method.specs.Steps.{State, steps, Counts}
 use Rattle.method.specs.Entries.{phase}
 use Rattle.network.specs.Refusal.{when, _else_, outside}
-use Rattle.network.specs.Room.{unless, begins}
+use Rattle.network.specs.Room.{keptIf, begins}
 use Rattle.network.specs.Bytes.{network, refusal}
 use Rattle.network.specs.Layout.{netOf, Laid}
 use Rattle.network.specs.LaidOut.{laidOut}
@@ -24,7 +24,7 @@ use Rattle.cells.specs.Part.{Part, phaseAt, phaseOf}
 use Rattle.run.specs.Ran.{Ran}
 use Rattle.table.specs.File.{one}
 use Rattle.table.specs.Calls.{outcome, roomAfter}
-use Rattle.table.specs.Laws.{nodeFile}
+use Rattle.table.specs.File.{nodeFile}
 use Rattle.table.specs.declared.Outcome.{Outcome}
 use Rattle.table.specs.declared.Outcome.the-variants.{Written, Refused}
 use Rattle.table.proofs.Proved.{at-most-27}
@@ -36,7 +36,7 @@ use Rattle.file.proofs.Records.{held-file}
 
 -- an answer and a room behind a refusal r, where `what` is to be written
 abbrev Gives : ℕ → List ℕ → List ℕ → ℕ → List ℕ → Type 0
-Gives r what room answer after = (answer ≡ r else values (length what) 0) × (after ≡ unless r room (begins what room))
+Gives r what room answer after = (answer ≡ r else values (length what) 0) × (after ≡ keptIf r room (begins what room))
 
 -- 12
 unstarted-is : (p : ℕ) → p ≡ 0 → phaseOf p ≡ unstarted

@@ -9,12 +9,12 @@ use Rattle.method.specs.Rules.{Filled}
 use Rattle.method.specs.Steps.{Step}
 use Rattle.method.specs.Entries.{phase}
 use Rattle.network.specs.Refusal.{when, _else_}
-use Rattle.network.specs.Room.{unless, begins}
+use Rattle.network.specs.Room.{keptIf, begins}
 use Rattle.network.specs.Layout.{netOf}
 use Rattle.cells.specs.Part.{Part, entryCount, entryAt, siteOf}
 use Rattle.entries.specs.Read.{isStopped}
 use Rattle.table.specs.File.{one, fileOf}
-use Rattle.table.specs.Laws.{headFor, nodeFile}
+use Rattle.table.specs.File.{headFor, nodeFile}
 use Rattle.table.specs.declared.Outcome.{Outcome}
 use Rattle.table.specs.declared.Outcome.the-variants.{Written, Refused}
 use Rattle.calls.specs.Calls.{isUnstarted}
@@ -37,7 +37,7 @@ abbrev pub lateAnswer : Net → List Step → ℕ → List ℕ → ℕ
 lateAnswer net bs i room = lateRefusal net bs i (length room) else values (length (nodeFile one net bs i)) 0
 
 abbrev pub lateRoom : Net → List Step → ℕ → List ℕ → List ℕ
-lateRoom net bs i room = unless (lateRefusal net bs i (length room)) room (begins (nodeFile one net bs i) room)
+lateRoom net bs i room = keptIf (lateRefusal net bs i (length room)) room (begins (nodeFile one net bs i) room)
 
 -- an outcome that one answer holds
 abbrev pub Packs : Outcome → Type 0

@@ -14,7 +14,7 @@ use Rattle.method.specs.Network.{IsNode, Accepted}
 use Rattle.method.specs.Steps.{steps}
 use Rattle.method.proofs.Proved.{laws as method-laws}
 use Rattle.network.specs.Bytes.{network, refusal, headRefusal}
-use Rattle.network.specs.Room.{unless, begins}
+use Rattle.network.specs.Room.{keptIf, begins}
 use Rattle.network.proofs.Laws.{checks}
 use Rattle.network.proofs.Refused.{none}
 use Rattle.network.proofs.Header.{header}
@@ -64,7 +64,7 @@ module _ (net bs : List ℕ) (z : runRefusal net bs ≡ 0) where
     rows = withRows (entryAfter net bs) (nodesOf net) (nodesOf net) room
 
     written : (room′ : List ℕ) → room′ ≡ entriesRoom net bs room → room′ ≡ rows
-    written room′ e = e ∙ ap (λ (r : ℕ). unless r room rows) z
+    written room′ e = e ∙ ap (λ (r : ℕ). keptIf r room rows) z
 
     pub whole-room : (room′ : List ℕ) → room′ ≡ entriesRoom net bs room → length room′ ≡ 512
     whole-room room′ e = ap length (written room′ e) ∙ length-rows (entryAfter net bs) (nodesOf net) (nodesOf net) room ∙ size
@@ -81,7 +81,7 @@ module _ (net bs : List ℕ) (z : runRefusal net bs ≡ 0) where
     pub handed-text : (n : ℕ) (numbers numbers′ room′ : List ℕ) → n ≡ nodesOf net → numbers′ ≡ countsRoom net bs numbers → room′ ≡ entriesRoom net bs room
         → houseText (getD numbers′ 0 0) (getD numbers′ 1 0) (getD numbers′ 2 0) (getD numbers′ 3 0) n (entryAt room′) ≡ textFor net bs
     handed-text n numbers numbers′ room′ en N R =
-        rw (N ∙ ap (λ (r : ℕ). unless r numbers (begins (countsAfter net bs) numbers)) z, written room′ R, en)
+        rw (N ∙ ap (λ (r : ℕ). keptIf r numbers (begins (countsAfter net bs) numbers)) z, written room′ R, en)
         (text-laws .same-text _ _ _ _ (nodesOf net) _ (entryAfter net bs) same-entry
         ∙ ap (λ (r : ℕ). textOf r (network net) (steps bs)) (sym z))
 

@@ -8,7 +8,7 @@ use native.Mathlib.Omega.{arith}
 use lib.Dec.{ltb, eqb}
 use borrow.Author.Tests.{eqb-false, ltb-false, ne-eqb, le-ltb}
 use Rattle.network.specs.Refusal.{when, _else_, outside}
-use Rattle.network.specs.Room.{unless}
+use Rattle.network.specs.Room.{keptIf}
 
 -- of two refusals, none
 pub none : (q r : ℕ) → q else r ≡ 0 → (q ≡ 0) × (r ≡ 0)
@@ -43,6 +43,6 @@ pub not-outside : (m y : ℕ) → 1 ≤ y → y ≤ m → outside m y ≡ false
 not-outside m y h g = rw (ne-eqb y 0 (omega arith), le-ltb m y g)
 
 -- nothing is written where something is refused
-pub kept : (r : ℕ) (room new : List ℕ) → (r ≡ 0 → ⊥) → unless r room new ≡ room
+pub kept : (r : ℕ) (room new : List ℕ) → (r ≡ 0 → ⊥) → keptIf r room new ≡ room
 kept zero room new ne = absurd (ne refl)
 kept (suc r) room new ne = refl

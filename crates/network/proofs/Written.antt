@@ -11,7 +11,7 @@ use lib.Seq.{sets, sets-eq}
 use Rattle.bits.proofs.Bytes.{length-packed}
 use Rattle.method.specs.Network.{Arc, Net}
 use Rattle.network.specs.Refusal.{_else_}
-use Rattle.network.specs.Room.{unless, begins}
+use Rattle.network.specs.Room.{keptIf, begins}
 use Rattle.network.specs.Bytes.{size, netBits}
 use Rattle.network.specs.Layout.{arcAt, arcsFrom, netOf, Laid}
 use Rattle.network.specs.Pairs.{Fits, AllFit, halves, pairBytes, netBytes}
@@ -85,7 +85,7 @@ abbrev pub packedAnswer : ℕ → Net → ℕ
 packedAnswer f net = f else 256 * size (length (net .arcs))
 
 abbrev pub packedRoom : ℕ → Net → List ℕ → List ℕ
-packedRoom f net room = unless f room (begins (netBytes net) room)
+packedRoom f net room = keptIf f room (begins (netBytes net) room)
 
 pub packs-nothing : (f : ℕ) (net : Net) (room : List ℕ) → (f ≡ 0 → ⊥) → (f ≡ packedAnswer f net) × (room ≡ packedRoom f net room)
 packs-nothing zero net room ne = absurd (ne refl)

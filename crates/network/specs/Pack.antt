@@ -5,7 +5,7 @@ use mathlib.Core.List.{List}
 use lib.ListN.{length}
 use Rattle.method.specs.Network.{Arc}
 use Rattle.network.specs.Refusal.{_else_}
-use Rattle.network.specs.Room.{unless, begins}
+use Rattle.network.specs.Room.{keptIf, begins}
 use Rattle.network.specs.Bytes.{size, bytesOf}
 use Rattle.network.specs.ArcList.{listRefusal}
 
@@ -15,4 +15,4 @@ packAnswer n lmax ar = listRefusal n lmax ar else 256 * size (length ar)
 
 -- the bytes at the room's start
 abbrev pub packRoom : ℕ → ℕ → List Arc → List ℕ → List ℕ
-packRoom n lmax ar room = unless (listRefusal n lmax ar) room (begins (bytesOf n lmax ar) room)
+packRoom n lmax ar room = keptIf (listRefusal n lmax ar) room (begins (bytesOf n lmax ar) room)

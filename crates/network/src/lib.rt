@@ -7,7 +7,7 @@ ghost use lib.ListN.{length};
 ghost use lib.Seq.{sets};
 ghost use Rattle.network.specs.Refusal;
 ghost use Rattle.network.specs.Refusal.{asArc, _else_, arcRefusal};
-ghost use Rattle.network.specs.Room.{unless, begins};
+ghost use Rattle.network.specs.Room.{keptIf, begins};
 ghost use Rattle.network.specs.Bytes.{headRefusal, refusal, arcs, network};
 ghost use Rattle.network.specs.Bytes;
 ghost use Rattle.network.specs.ArcList.{given, sizeRefusal};
@@ -270,7 +270,7 @@ fn put_bytes(laid: &[u8; 772], room: &mut [u8]) -> u32
 // Writes the bytes of what is laid out at the room's start, unless f was refused.
 pub fn write_bytes(f: u32, laid: [u8; 772], room: &mut [u8; 363]) -> u32
     requires { ⌜ (f ≡ 0 → Laid laid) ⌝ }
-    ensures { λ r. ⌜ (r ≡ f else 256 * Bytes.size (length (netOf laid .arcs))) × (now (room .exit) ≡ unless f (now (room .entry)) (begins (netBytes (netOf laid)) (now (room .entry)))) ⌝ }
+    ensures { λ r. ⌜ (r ≡ f else 256 * Bytes.size (length (netOf laid .arcs))) × (now (room .exit) ≡ keptIf f (now (room .entry)) (begins (netBytes (netOf laid)) (now (room .entry)))) ⌝ }
 {
     if f != 0 {
         return f;

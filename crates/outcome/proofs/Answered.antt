@@ -8,7 +8,7 @@ use Rattle.method.specs.Steps.{State, Counts, steps, run, counts}
 use Rattle.method.specs.Entries.{entry}
 use Rattle.network.specs.Refusal.{_else_}
 use Rattle.network.specs.Bytes.{network, refusal}
-use Rattle.network.specs.Room.{unless, begins}
+use Rattle.network.specs.Room.{keptIf, begins}
 use Rattle.network.specs.Layout.{netOf}
 use Rattle.network.proofs.Refused.{second}
 use Rattle.cells.specs.Part.{Part, stateOf}
@@ -29,10 +29,10 @@ not-refused net bs none = second (refusal net) (tenRefusal net bs) none ∙ neve
 module _ (net bs numbers room : List ℕ) where
   -- as it is for a refusal q of the network
   abbrev numbersIf : ℕ → List ℕ
-  numbersIf q = unless (q else tenRefusal net bs) numbers (begins (countsAfter net bs) numbers)
+  numbersIf q = keptIf (q else tenRefusal net bs) numbers (begins (countsAfter net bs) numbers)
 
   abbrev roomIf : ℕ → List ℕ
-  roomIf q = unless (q else tenRefusal net bs) room (withRows (entryAfter net bs) (nodesOf net) (nodesOf net) room)
+  roomIf q = keptIf (q else tenRefusal net bs) room (withRows (entryAfter net bs) (nodesOf net) (nodesOf net) room)
 
   -- a refused network is not run, and nothing is written
   pub refused-answers : (r : ℕ) → r ≡ refusal net → (r ≡ 0 → ⊥) → Answers net bs r numbers numbers room room
@@ -49,9 +49,9 @@ module _ (net bs numbers room : List ℕ) where
         N
             ∙ ap₂ (λ (c : Counts) (k : ℕ). begins (countList c k) numbers) (ran .counted) (S ∙ ap (λ (st : State). stoppedTo st (netOf g .n)) (ran .state))
             ∙ ap (λ (net : Net). begins (countList (counts net (steps bs)) (stoppedTo (run net (steps bs)) (net .n))) numbers) same
-            ∙ ap (λ (r : ℕ). unless r numbers (begins (countsAfter net bs) numbers)) z,
+            ∙ ap (λ (r : ℕ). keptIf r numbers (begins (countsAfter net bs) numbers)) z,
         R
             ∙ ap (λ (st : State). withRows (λ i. entryOf (st i)) (netOf g .n) (netOf g .n) room) (ran .state)
             ∙ ap (λ (net : Net). withRows (entry net (steps bs)) (net .n) (net .n) room) same
-            ∙ ap (λ (r : ℕ). unless r room (withRows (entryAfter net bs) (nodesOf net) (nodesOf net) room)) z,
+            ∙ ap (λ (r : ℕ). keptIf r room (withRows (entryAfter net bs) (nodesOf net) (nodesOf net) room)) z,
       )

@@ -16,7 +16,7 @@ use Rattle.method.specs.Marks.{distanceOf, noHop}
 use Rattle.method.proofs.Table.{In, Found, find-ok}
 use Rattle.table.specs.File.{Head, one, head}
 use Rattle.table.specs.Reader.{Taken, taken, phaseOf, told, refusal, says, entryOf, entryRead}
-use Rattle.table.specs.Calls.{answer}
+use Rattle.table.specs.Lent.{answer}
 use Rattle.table.specs.Code.{distanceIn, hopIn, Headed, walked, answered}
 use Rattle.table.specs.declared.Answer.the-variants.{Entry, Refused}
 use Rattle.table.specs.declared.Ending.{Ending}

@@ -21,7 +21,8 @@ use Rattle.method.proofs.Proved.{laws}
 use Rattle.table.specs.File.{Form, Head, bodyBits, fileBits, headSize, recordSize, start, hasStopped}
 use Rattle.table.specs.Reader.{Reading, accepted, reading, phaseOf, entryIn, says, entryOf, entryRead}
 use Rattle.table.specs.Code.{bytesFor}
-use Rattle.table.specs.Laws.{Fits, Started, headFor, nodeFile, cutRead, wholeRecords}
+use Rattle.table.specs.Laws.{Fits, Started, cutRead, wholeRecords}
+use Rattle.table.specs.File.{headFor, nodeFile}
 use Rattle.table.proofs.Sizes.{length-body, length-file, file-bits, end-after}
 use Rattle.table.proofs.Passed.{Passed, all-passed, passed-nodes, few-records}
 use Rattle.table.proofs.Whole.{whole-all, whole-passed, whole-find}

@@ -16,7 +16,7 @@ use Rattle.bits.proofs.AsBits.{asBits-mod, asBits-join, asBits-zeros, asBits-on
 use Rattle.bits.proofs.Bytes.{packed-bits}
 use Rattle.method.specs.Rules.{Filled}
 use Rattle.method.specs.Entries.{lastDistance}
-use Rattle.table.specs.Calls.{rows}
+use Rattle.table.specs.Lent.{rows}
 use Rattle.table.specs.File.{Form, Head, one, headBits, recordBits, bodyBits, toEdge, endBits, fileBits, fileOf, start}
 use Rattle.table.specs.Code.{bytesFor, joined, recordsBits, flushed, Pending, finished}
 use Rattle.table.proofs.Sizes.{length-body, length-file-bits, length-file, end-after}

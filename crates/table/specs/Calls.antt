@@ -1,34 +1,16 @@
--- What the calls take and answer, with 01's numbers, and what they leave in a lent room.
+-- What is answered of numbers that are written into a room, and what they leave there; all entries of a file as numbers.
 -- Assumes nothing.
-use Prim.Native.Nat.{ℕ, zero, suc, min}
+use Prim.Native.Nat.{ℕ, zero, suc}
 use mathlib.Core.List.{List, [], _∷_, _++_}
-use lib.ListN.{length, getD, drop}
+use lib.ListN.{length, drop}
 use lib.Dec.{ltb}
 use Rattle.method.specs.If.{if_then_else_}
-use Rattle.method.specs.Rules.{Filled}
 use Rattle.method.specs.Entries.{Entry}
 use Rattle.method.specs.Marks.{distanceOf, hopOf}
-use Rattle.table.specs.Reader.{Reading, refused, accepted, entryIn, Read, refusal, says}
-use Rattle.table.specs.declared.Answer.{Answer}
-use Rattle.table.specs.declared.Answer.the-variants.{Refused}
-use Rattle.table.specs.declared.Answer.the-variants.{Entry as EntryIs}
+use Rattle.table.specs.Reader.{Reading, refused, accepted, entryIn}
 use Rattle.table.specs.declared.Outcome.{Outcome}
 use Rattle.table.specs.declared.Outcome.the-variants.{Written}
 use Rattle.table.specs.declared.Outcome.the-variants.{Refused as RefusedRoom}
-
--- the first k records of three lists in the order of filling, newest first
-unfoldable pub rows : List ℕ → List ℕ → List ℕ → ℕ → List Filled
-rows targets distances hops zero = []
-rows targets distances hops (suc k) = record { target = getD targets k 0; distance = getD distances k 0; hop = getD hops k 0 } ∷ rows targets distances hops k
-
--- the first `count` of them, as far as all three lists have them
-abbrev pub given : List ℕ → List ℕ → List ℕ → ℕ → List Filled
-given targets distances hops count = rows targets distances hops (min (min count (length targets)) (min (length distances) (length hops)))
-
--- a refusal's number; or the distance, or its mark, and the first hop
-abbrev pub answer : Read → Answer
-answer (refusal r) = Refused r
-answer (says e) = EntryIs (record { 0 = distanceOf e }) (hopOf e)
 
 -- numbers are written from a room's start on: 13 where they are more than the room has
 abbrev pub outcome : List ℕ → List ℕ → Outcome

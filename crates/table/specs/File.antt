@@ -6,7 +6,9 @@ use mathlib.Core.Bool.{Bool, true, false}
 use lib.ListN.{length, replicate}
 use Rattle.bits.specs.Bits.{asBits, packed}
 use Rattle.method.specs.Rules.{Filled, Phase, unstarted, started, stopped}
-use Rattle.method.specs.Entries.{lastDistance}
+use Rattle.method.specs.Network.{Net}
+use Rattle.method.specs.Steps.{Step}
+use Rattle.method.specs.Entries.{phase, records, lastDistance}
 
 -- a version, and how many bits a node and a length have in it
 pub record Form : Type 0 where
@@ -75,3 +77,11 @@ abbrev pub hasStopped : Phase → Bool
 hasStopped unstarted = false
 hasStopped started = false
 hasStopped stopped = true
+
+-- the header of node i's file
+abbrev pub headFor : Net → ℕ → Head
+headFor net i = head i (net .n) (net .lmax)
+
+-- node i's file after the steps bs
+abbrev pub nodeFile : Form → Net → List Step → ℕ → List ℕ
+nodeFile f net bs i = fileOf f (headFor net i) (records net bs i) (hasStopped (phase net bs i))

@@ -15,7 +15,7 @@ use Rattle.method.specs.Distance.{NoChain, Right}
 use Rattle.method.specs.Rules.{Filled, unstarted, has}
 use Rattle.method.specs.Steps.{Step}
 use Rattle.method.specs.Entries.{unknown, unreachable, known, phase, entry, Stopped, records}
-use Rattle.table.specs.File.{Form, one, Head, head, fileOf, headSize, recordSize, start, hasStopped}
+use Rattle.table.specs.File.{Form, one, headSize, recordSize, start, hasStopped, headFor, nodeFile}
 use Rattle.table.specs.Reader.{accepted, reading, Read, says, entryRead}
 
 -- the form's fields hold the house's numbers; a header takes at least two bytes, and a record more bits than are left of a byte
@@ -29,14 +29,6 @@ pub record Fits (f : Form) (n lmax : ℕ) : Type 0 where
 -- node i of the network, started by the steps bs
 abbrev pub Started : Net → List Step → ℕ → Type 0
 Started net bs i = IsNode (net .n) i × (phase net bs i ≢ unstarted)
-
--- the header of node i's file
-abbrev pub headFor : Net → ℕ → Head
-headFor net i = head i (net .n) (net .lmax)
-
--- node i's file after the steps bs
-abbrev pub nodeFile : Form → Net → List Step → ℕ → List ℕ
-nodeFile f net bs i = fileOf f (headFor net i) (records net bs i) (hasStopped (phase net bs i))
 
 -- the entry for y in its first c bytes
 abbrev pub cutRead : Form → Net → List Step → ℕ → ℕ → ℕ → Read

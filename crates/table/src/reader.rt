@@ -16,7 +16,8 @@ ghost use Rattle.bits.specs.Bits.{bitsOf, field};
 ghost use Rattle.method.specs.If.{if_then_else_};
 ghost use Rattle.table.specs.File.{one, head};
 ghost use Rattle.table.specs.Reader.{headAt, headFault, wrongFields, taken, reading, entryRead};
-ghost use Rattle.table.specs.Calls.{answer, entriesOutcome, entriesRoom};
+ghost use Rattle.table.specs.Calls.{entriesOutcome, entriesRoom};
+ghost use Rattle.table.specs.Lent.{answer};
 ghost use Rattle.table.specs.Code.{standing, endingAt, firstRecords, Headed, walked, counted, answeredBy};
 ghost use Rattle.table.specs.Listing.{withEntry, withAbsent, withRecords, Within, allOutcome, allRoom};
 

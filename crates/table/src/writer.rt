@@ -7,7 +7,8 @@ ghost use mathlib.Core.List.{_++_};
 ghost use lib.ListN.{length, take};
 ghost use Rattle.bits.specs.Bits.{bitsOf};
 ghost use Rattle.table.specs.File.{one, fileOf, head};
-ghost use Rattle.table.specs.Calls.{rows, given, outcome, roomAfter};
+ghost use Rattle.table.specs.Calls.{outcome, roomAfter};
+ghost use Rattle.table.specs.Lent.{rows, given};
 ghost use Rattle.table.specs.Code.{bytesFor, joined, flushed, Pending, recordsBits, finished};
 
 // A record's number in a type that holds what is made of it.

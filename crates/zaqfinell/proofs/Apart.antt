@@ -17,7 +17,7 @@ use Rattle.method.specs.Steps.{steps}
 use Rattle.method.specs.Entries.{Entry, unknown, unreachable, known}
 use Rattle.method.specs.Marks.{distanceOf, hopOf}
 use Rattle.network.specs.Refusal.{_else_}
-use Rattle.network.specs.Room.{unless}
+use Rattle.network.specs.Room.{keptIf}
 use Rattle.network.specs.Bytes.{network, size}
 use Rattle.network.specs.ArcList.{listRefusal}
 use Rattle.network.specs.Pack.{packAnswer}
@@ -179,7 +179,7 @@ run-shows : (net bs room : List ℕ) (i y : ℕ) → runRefusal net bs ≡ 0 →
     → (getD (entriesRoom net bs room) (place i y) 0 ≡ distanceOf (entryAfter net bs i y)) × (getD (entriesRoom net bs room) (place i y + 1) 0 ≡ hopOf (entryAfter net bs i y))
 run-shows net bs room i y e size at to =
     let few = run-accepted net bs e .sizes .nodes .1 in
-    subst (λ (r : ℕ). Stands (unless r room (withRows (entryAfter net bs) (nodesOf net) (nodesOf net) room)) i y (entryAfter net bs i y)) (sym e)
+    subst (λ (r : ℕ). Stands (keptIf r room (withRows (entryAfter net bs) (nodesOf net) (nodesOf net) room)) i y (entryAfter net bs i y)) (sym e)
     (rows-stand (entryAfter net bs) (nodesOf net) (nodesOf net) room i y few few size at to)
 
 pub apart : Apart

@@ -18,7 +18,7 @@ use Rattle.table.specs.File.{headBits, recordBits, bodyBits, fileBits, fileOf}
 use Rattle.table.specs.Reader.{reading, headAt, headFault, taken, walk, recordAt, wrong, wrongFields, afterZero}
 use Rattle.table.specs.Laws.{Started}
 use Rattle.table.proofs.Proved.{laws}
-use Rattle.entries.specs.Read.{filledOf}
+use Rattle.entries.specs.Filled.{filledOf}
 use Rattle.calls.specs.Answers.{entryValues}
 use Rattle.zaqfinell.specs.Examples.{q, q5, lone, all, most, early, told, sevens, written, Hold, cases}
 use Rattle.zaqfinell.proofs.Left.{Leaves, entry-by, answerIn, roomIn, write-by}

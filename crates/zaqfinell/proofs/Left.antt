@@ -11,11 +11,11 @@ use Rattle.method.specs.Rules.{Filled, Phase}
 use Rattle.method.specs.Steps.{steps}
 use Rattle.method.specs.Entries.{find, said, phase, table, entry, others}
 use Rattle.network.specs.Refusal.{when, _else_}
-use Rattle.network.specs.Room.{unless, begins}
+use Rattle.network.specs.Room.{keptIf, begins}
 use Rattle.network.specs.Bytes.{network, refusal}
 use Rattle.network.proofs.Refused.{not-outside}
 use Rattle.table.specs.File.{one, fileOf, hasStopped}
-use Rattle.table.specs.Laws.{headFor}
+use Rattle.table.specs.File.{headFor}
 use Rattle.calls.proofs.Ten.{never-ten}
 use Rattle.calls.specs.Answers.{values, entryValues}
 use Rattle.calls.specs.Calls.{nodesOf, isUnstarted, entryAnswer, writeAnswer, writeRoom}
@@ -52,7 +52,7 @@ module _ (net : List ℕ) (n : Net) (bs : List ℕ) (i : ℕ) (ph : Phase) (es :
   answerIn room = refused room else values (length file) 0
 
   abbrev pub roomIn : List ℕ → List ℕ
-  roomIn room = unless (refused room) room (begins file room)
+  roomIn room = keptIf (refused room) room (begins file room)
 
   pub write-by : (room : List ℕ) → (writeAnswer net bs i room ≡ answerIn room) × (writeRoom net bs i room ≡ roomIn room)
   write-by room =

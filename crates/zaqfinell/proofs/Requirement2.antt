@@ -24,7 +24,7 @@ use Rattle.network.specs.Bytes.{network, refusal, size, netBits, bytesOf}
 use Rattle.network.specs.ArcList.{listRefusal}
 use Rattle.network.specs.Pack.{packRoom}
 use Rattle.network.proofs.Refused.{inside}
-use Rattle.network.specs.Room.{unless, begins}
+use Rattle.network.specs.Room.{keptIf, begins}
 use Rattle.network.proofs.Laws.{checks}
 use Rattle.entries.specs.Read.{atEnd, isStopped, stoppedTo}
 use Rattle.table.specs.File.{one}
@@ -129,7 +129,7 @@ way net bs i y d h e is =
 written : (net bs : List ℕ) (i : ℕ) (room : List ℕ) → writeRefusal net bs i (length room) ≡ 0
     → take (length (fileAfter net bs i)) (writeRoom net bs i room) ≡ fileAfter net bs i
 written net bs i room e =
-    ap (λ (r : ℕ). take (length (fileAfter net bs i)) (unless r room (begins (fileAfter net bs i) room))) e
+    ap (λ (r : ℕ). take (length (fileAfter net bs i)) (keptIf r room (begins (fileAfter net bs i) room))) e
     ∙ take-at (fileAfter net bs i) (drop (length (fileAfter net bs i)) room) (length (fileAfter net bs i)) refl
 
 -- 27 bytes are enough
@@ -172,7 +172,7 @@ same net bs i wide e y at =
 both-entries : (n lmax : ℕ) (ar : List Arc) (room : List ℕ) → listRefusal n lmax ar ≡ 0
     → (refusal (take (size (length ar)) (packRoom n lmax ar room)) ≡ 0) × (network (take (size (length ar)) (packRoom n lmax ar room)) ≡ house n lmax ar)
 both-entries n lmax ar room e =
-    let is = ap (λ (r : ℕ). take (size (length ar)) (unless r room (begins (bytesOf n lmax ar) room))) e
+    let is = ap (λ (r : ℕ). take (size (length ar)) (keptIf r room (begins (bytesOf n lmax ar) room))) e
     ∙ take-at (bytesOf n lmax ar) (drop (length (bytesOf n lmax ar)) room) (size (length ar)) (length-packed (size (length ar)) (netBits n lmax ar)) in
     subst (λ (s : List ℕ). (refusal s ≡ 0) × (network s ≡ house n lmax ar)) (sym is) (checks .list-as-bytes n lmax ar e)
 

@@ -21,7 +21,8 @@ use Rattle.network.proofs.Laws.{checks}
 use Rattle.network.proofs.Refused.{inside}
 use Rattle.table.specs.File.{one, hasStopped}
 use Rattle.table.specs.Reader.{Reading, entryIn, refusal, says, entryOf}
-use Rattle.table.specs.Laws.{headFor, Laws}
+use Rattle.table.specs.Laws.{Laws}
+use Rattle.table.specs.File.{headFor}
 use Rattle.table.proofs.Proved.{laws as file-laws}
 use Rattle.calls.specs.Answers.{entryValues, readAnswer}
 use Rattle.calls.specs.Calls.{nodesOf, entryAfter, entryRefusal, entryAnswer, fileAfter}

@@ -1,7 +1,7 @@
 -- `read_entry`: the header's refusals, then what the records tell, by how they end.
 use mathlib.Core.Path.{sym, _∙_, ap}
 use Rattle.table.specs.Reader.{Reading, entryOf}
-use Rattle.table.specs.Calls.{answer}
+use Rattle.table.specs.Lent.{answer}
 use Rattle.table.specs.declared.Ending.the-variants.{Unfinished, Marked, Faulty}
 use Rattle.table.proofs.SoundHeader.{fault-refuses}
 use Rattle.table.proofs.Answering.{scan-answers}

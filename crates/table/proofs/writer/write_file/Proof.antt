@@ -6,7 +6,7 @@ use lib.ListN.{length}
 use borrow.Author.Tests.{lt-ltb, le-ltb}
 use Rattle.bits.specs.Bits.{Bytes}
 use Rattle.table.specs.File.{head, one, fileOf}
-use Rattle.table.specs.Calls.{rows}
+use Rattle.table.specs.Lent.{rows}
 use Rattle.table.specs.Code.{joined}
 use Rattle.table.specs.declared.Outcome.the-variants.{Written}
 use Rattle.table.proofs.Sizes.{end-after}
