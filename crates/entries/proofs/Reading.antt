@@ -1,16 +1,14 @@
--- Reading a part: the phase, an entry by its mark, and the entries in the order of filling.
+-- Reading a part: the phase, and an entry by its mark.
 -- Assumes nothing.
 use mathlib.Core.Path.{_≡_, refl, sym, ap, subst, _∙_}
 use mathlib.Core.Logic.{_≢_}
-use mathlib.Core.Bool.{Bool, true, false, cond, not}
+use mathlib.Core.Bool.{Bool, true, false, cond}
 use mathlib.Core.Option.{Option, none, some}
-use mathlib.Core.List.{List, [], _∷_}
+use mathlib.Core.List.{List}
 use Prim.Native.Nat.{ℕ, zero, suc, _+_, _-_, _≤_, _<_}
 use native.Mathlib.Omega.{arith}
 use native.Mathlib.Numerals.{add-one}
 use lib.Dec.{ltb, eqb}
-use lib.ListN.{length, drop}
-use lib.Seq.{drop-length}
 use borrow.Author.Tests.{lt-ltb, le-ltb, eqb-true, eqb-false}
 use Rattle.method.specs.Network.{IsNode, Accepted}
 use Rattle.method.specs.Marks.{unknownMark, unreachableMark, distanceOf, noHop, hopOf}
@@ -19,12 +17,10 @@ use Rattle.method.specs.Steps.{State, steps, Counts}
 use Rattle.method.specs.Entries.{known, find, said, others, entry, records}
 use Rattle.method.proofs.Bounded.{never-a-mark}
 use Rattle.network.specs.Layout.{netOf}
-use Rattle.cells.specs.Part.{Part, entryAt, tableFrom, phaseOf, nodeOf, siteOf, stateOf, marked}
+use Rattle.cells.specs.Part.{Part, entryAt, phaseOf, nodeOf, siteOf, stateOf, marked}
 use Rattle.cells.specs.Caches.{Marks}
-use Rattle.cells.proofs.Lists.{table-length}
 use Rattle.run.specs.Ran.{Ran}
 use Rattle.entries.specs.Read.{atEnd, isStopped, stoppedTo, entryOf}
-use Rattle.entries.specs.Filled.{filledFirst}
 
 -- the phase
 pub stopped-is : (p : ℕ) → ltb 1 p ≡ atEnd (phaseOf p)
@@ -89,47 +85,6 @@ module _ (f : Part) (y : ℕ) (lt : y < 17) (marks : Marks f) (k : ℕ) (is : k 
         go unstarted = refl
         go started = refl
         go stopped = refl
-
--- the entries that were filled first
-down : (f : Part) (d k t : ℕ) → k ≡ t + d → drop d (tableFrom f k) ≡ tableFrom f t
-down f zero k t e = let q : k ≡ t = omega arith in rw q
-down f (suc d) zero t e = absurd (omega arith)
-down f (suc d) (suc k) t e = down f d k t (omega arith)
-
-pub filled-first : (f : Part) (k : ℕ) → k ≤ f 2 → filledFirst k (nodeOf f .table) ≡ tableFrom f k
-unfolding filledFirst
-filled-first f k le = rw (table-length f (f 2)) (down f (f 2 - k) (f 2) k (omega arith))
-
-pub filled-next : (f : Part) (k : ℕ) → k < f 2 → filledFirst (suc k) (nodeOf f .table) ≡ entryAt f k ∷ filledFirst k (nodeOf f .table)
-filled-next f k lt = filled-first f (suc k) lt ∙ ap (λ (es : List Filled). entryAt f k ∷ es) (sym (filled-first f k (omega arith)))
-
--- none, and all
-pub filled-none : (es : List Filled) → filledFirst 0 es ≡ []
-unfolding filledFirst
-filled-none es = let e : length es - 0 ≡ length es = omega arith in ap (λ (k : ℕ). drop k es) e ∙ drop-length es
-
-pub filled-all : (es : List Filled) → filledFirst (length es) es ≡ es
-unfolding filledFirst
-filled-all es = let e : length es - length es ≡ 0 = omega arith in ap (λ (k : ℕ). drop k es) e
-
--- records, one entry more
-pub records-next : (f : Part) (i k c r x : ℕ) (b : Bool) → x ≡ f (74 + k) → b ≡ not (eqb x i) → c ≡ length (others i (tableFrom f k)) → r ≡ cond b 1 0 + c
-    → r ≡ length (others i (tableFrom f (k + 1)))
-records-next f i k c r x b ex eb ec er =
-    subst (λ (n : ℕ). r ≡ length (others i (tableFrom f n))) (sym (add-one k))
-    (er ∙ ap (λ (t : Bool). cond t 1 0 + c) (eb ∙ ap (λ (z : ℕ). not (eqb z i)) ex) ∙ go (eqb (f (74 + k)) i))
-  where
-    go : (t : Bool) → cond (not t) 1 0 + c ≡ length (cond t (others i (tableFrom f k)) (entryAt f k ∷ others i (tableFrom f k)))
-    go true = omega (arith, ec)
-    go false = omega (arith, ec)
-
-pub others-le : (f : Part) (i k : ℕ) → length (others i (tableFrom f k)) ≤ k
-others-le f i zero = omega arith
-others-le f i (suc k) = go (eqb (f (74 + k)) i) (others-le f i k)
-  where
-    go : (b : Bool) → length (others i (tableFrom f k)) ≤ k → length (cond b (others i (tableFrom f k)) (entryAt f k ∷ others i (tableFrom f k))) ≤ suc k
-    go true ih = omega arith
-    go false ih = omega arith
 
 -- after a run, this is what the method says
 module _ (g bs : List ℕ) (m : ℕ → Part) (c : Counts) (ran : Ran g bs m c) (i : ℕ) where

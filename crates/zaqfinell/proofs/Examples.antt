@@ -18,7 +18,6 @@ use Rattle.table.specs.File.{headBits, recordBits, bodyBits, fileBits, fileOf}
 use Rattle.table.specs.Reader.{reading, headAt, headFault, taken, walk, recordAt, wrong, wrongFields, afterZero}
 use Rattle.table.specs.Laws.{Started}
 use Rattle.table.proofs.Proved.{laws}
-use Rattle.entries.specs.Filled.{filledOf}
 use Rattle.calls.specs.Answers.{entryValues}
 use Rattle.zaqfinell.specs.Examples.{q, q5, lone, all, most, early, told, sevens, written, Hold, cases}
 use Rattle.zaqfinell.proofs.Left.{Leaves, entry-by, answerIn, roomIn, write-by}
@@ -35,6 +34,9 @@ networks = (refl, refl)
 -- what each run leaves, computed once
 left-in-Q : {bs : List ℕ} {i : ℕ} {ph : Phase} {es : List Filled} → IsNode 3 i → phase Q (steps bs) i ≡ ph → table Q (steps bs) i ≡ es → Leaves q Q bs i ph es
 left-in-Q at ph es = record { taken = refusals .0; means = networks .0; node = at; phase-is = ph; table-is = es }
+
+abbrev filledOf : ℕ → ℕ → ℕ → Filled
+filledOf y d h = record { target = y; distance = d; hop = h }
 
 abbrev own : ℕ → List Filled
 own i = filledOf i 0 0 ∷ []

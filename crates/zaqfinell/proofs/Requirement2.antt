@@ -26,6 +26,7 @@ use Rattle.network.specs.Pack.{packRoom}
 use Rattle.network.proofs.Refused.{inside}
 use Rattle.network.specs.Room.{keptIf, begins}
 use Rattle.network.proofs.Laws.{checks}
+use Rattle.entries.proofs.Reading.{stopped-le}
 use Rattle.entries.specs.Read.{atEnd, isStopped, stoppedTo}
 use Rattle.table.specs.File.{one}
 use Rattle.table.specs.Reader.{entryRead}
@@ -59,14 +60,6 @@ at-end unstarted e = absurd (true≢false (sym e))
 at-end started e = absurd (true≢false (sym e))
 at-end stopped e = refl
 
-stopped-few : (st : State) (k : ℕ) → stoppedTo st k ≤ k
-stopped-few st zero = omega arith
-stopped-few st (suc k) = go (isStopped (st (suc k))) (stopped-few st k)
-  where
-    go : (t : Bool) → stoppedTo st k ≤ k → (if t then 1 else 0) + stoppedTo st k ≤ suc k
-    go true le = omega arith
-    go false le = omega arith
-
 -- where as many have stopped as there are, each has
 all-stopped : (st : State) (k : ℕ) → stoppedTo st k ≡ k → (j : ℕ) → IsNode k j → isStopped (st j) ≡ true
 all-stopped st zero e j at = absurd (omega arith)
@@ -80,7 +73,7 @@ all-stopped st (suc k) e j at = go (isStopped (st (suc k))) refl (eqb j (suc k))
         rec (omega arith) (omega arith, omega arith)
     go false is u f rec =
         let sum : 0 + stoppedTo st k ≡ suc k = ap (λ (t : Bool). (if t then 1 else 0) + stoppedTo st k) (sym is) ∙ e in
-        let le = stopped-few st k in
+        let le = stopped-le st k in
         absurd (omega arith)
 
 -- where fewer have, one has not
