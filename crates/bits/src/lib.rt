@@ -14,9 +14,9 @@ fn wide(x: u8) -> u32
 }
 
 // 2 to the d.
-fn power(d: usize) -> u32
+pub fn power(d: usize) -> u32
     requires { ⌜ d ≤ 24 ⌝ }
-    ensures { λ r. ⌜ (r ≡ 2 ^ d) × (0 < r) ⌝ }
+    ensures { λ r. ⌜ (r ≡ 2 ^ d) × (0 < r) × (r ≤ 16777216) ⌝ }
 {
     1 << d
 }

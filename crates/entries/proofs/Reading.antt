@@ -14,19 +14,19 @@ use Rattle.method.specs.Network.{IsNode, Accepted}
 use Rattle.method.specs.Marks.{unknownMark, unreachableMark, distanceOf, noHop, hopOf}
 use Rattle.method.specs.Rules.{Filled, Phase, unstarted, started, stopped}
 use Rattle.method.specs.Steps.{State, steps, Counts}
-use Rattle.method.specs.Entries.{known, find, said, others, entry, records}
+use Rattle.method.specs.Entries.{known, find, said, hasStopped, others, entry, records}
 use Rattle.method.proofs.Bounded.{never-a-mark}
 use Rattle.network.specs.Layout.{netOf}
 use Rattle.cells.specs.Part.{Part, entryAt, phaseOf, nodeOf, siteOf, stateOf, marked}
 use Rattle.cells.specs.Caches.{Marks}
 use Rattle.run.specs.Ran.{Ran}
-use Rattle.entries.specs.Read.{atEnd, isStopped, stoppedTo, entryOf}
+use Rattle.entries.specs.Read.{isStopped, stoppedTo, entryOf}
 
 -- the phase
-pub stopped-is : (p : ℕ) → ltb 1 p ≡ atEnd (phaseOf p)
+pub stopped-is : (p : ℕ) → ltb 1 p ≡ hasStopped (phaseOf p)
 stopped-is p = go (eqb p 0) refl (eqb p 1) refl
   where
-    go : (a : Bool) → eqb p 0 ≡ a → (b : Bool) → eqb p 1 ≡ b → ltb 1 p ≡ atEnd (cond a unstarted (cond b started stopped))
+    go : (a : Bool) → eqb p 0 ≡ a → (b : Bool) → eqb p 1 ≡ b → ltb 1 p ≡ hasStopped (cond a unstarted (cond b started stopped))
     go true ea b eb = le-ltb 1 p (omega (arith, eqb-true p 0 ea))
     go false ea true eb = le-ltb 1 p (omega (arith, eqb-true p 1 eb))
     go false ea false eb =
@@ -81,7 +81,7 @@ module _ (f : Part) (y : ℕ) (lt : y < 17) (marks : Marks f) (k : ℕ) (is : k 
     pub no-distance : (b : Bool) → b ≡ isStopped (siteOf f) → cond b unreachableMark unknownMark ≡ distanceOf (entryOf (siteOf f) y)
     no-distance b e = ap (λ (t : Bool). cond t unreachableMark unknownMark) e ∙ sym (ap distanceOf unfilled ∙ go (nodeOf f .phase))
       where
-        go : (ph : Phase) → distanceOf (said ph none) ≡ cond (atEnd ph) unreachableMark unknownMark
+        go : (ph : Phase) → distanceOf (said ph none) ≡ cond (hasStopped ph) unreachableMark unknownMark
         go unstarted = refl
         go started = refl
         go stopped = refl

@@ -9,7 +9,7 @@ use Rattle.method.specs.declared.Distance.{Distance}
 use Rattle.table.specs.File.{one}
 use Rattle.table.specs.Reader.{reading, Read, refusal, says, entryRead}
 use Rattle.table.specs.Calls.{entriesOutcome}
-use Rattle.table.specs.Lent.{answer}
+use Rattle.reader.specs.Code.{answer}
 use Rattle.table.specs.declared.Answer.{Answer}
 use Rattle.table.specs.declared.Answer.the-variants.{Entry, Refused}
 use Rattle.table.specs.declared.Outcome.{Outcome}

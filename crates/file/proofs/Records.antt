@@ -10,9 +10,9 @@ use lib.Dec.{eqb}
 use borrow.Author.Tests.{eq-eqb, eqb-true, eqb-false}
 use Rattle.method.specs.Network.{Net, Valid, Positive}
 use Rattle.method.specs.Distance.{Distance}
-use Rattle.method.specs.Rules.{Filled, Phase, unstarted, started, stopped}
+use Rattle.method.specs.Rules.{Filled, unstarted}
 use Rattle.method.specs.Steps.{State, Step, steps, Counts}
-use Rattle.method.specs.Entries.{phase, table, others, records}
+use Rattle.method.specs.Entries.{phase, hasStopped, table, others, records}
 use Rattle.method.proofs.Chains.{own-distance}
 use Rattle.method.proofs.Table.{In, Has, Once, Paced}
 use Rattle.method.proofs.Said.{ok-of, once, filled-known}
@@ -20,10 +20,9 @@ use Rattle.method.proofs.Hops.{onto}
 use Rattle.network.specs.Layout.{netOf, Laid}
 use Rattle.cells.specs.Part.{Part, entryCount, entryAt, tableFrom, stateOf}
 use Rattle.run.specs.Ran.{Ran}
-use Rattle.entries.specs.Read.{atEnd}
 use Rattle.entries.proofs.Reading.{ran-records}
-use Rattle.table.specs.File.{one, fileOf, hasStopped}
-use Rattle.table.specs.File.{headFor, nodeFile}
+use Rattle.table.specs.File.{one, fileOf}
+use Rattle.table.specs.File.{headerFor, nodeFile}
 use Rattle.file.specs.Filing.{behindFirst, heldFile}
 
 -- what puts node i's own entry first: it is there once, it alone has distance 0, and distances rise
@@ -94,13 +93,8 @@ module _ (g bs : List ℕ) (m : ℕ → Part) (c : Counts) (laid : Laid g) (ran 
       sym (behind (m i) (netOf g .lmax) i (m i entryCount - 1) (subst (λ (k : ℕ). OwnFirst (netOf g .lmax) i (tableFrom (m i) k)) e own-first))
       ∙ ap (λ (k : ℕ). others i (tableFrom (m i) k)) (sym e) ∙ ran-records g bs m c ran i
 
-  mark-is : atEnd (stateOf m i .node .phase) ≡ hasStopped (phase (netOf g) (steps bs) i)
-  mark-is = ap (λ (st : State). atEnd (st i .node .phase)) (ran .state) ∙ go (phase (netOf g) (steps bs) i)
-    where
-      go : (ph : Phase) → atEnd ph ≡ hasStopped ph
-      go unstarted = refl
-      go started = refl
-      go stopped = refl
+  mark-is : hasStopped (stateOf m i .node .phase) ≡ hasStopped (phase (netOf g) (steps bs) i)
+  mark-is = ap (λ (st : State). hasStopped (st i .node .phase)) (ran .state)
 
   pub held-file : heldFile g i (m i) ≡ nodeFile one (netOf g) (steps bs) i
-  held-file = ap₂ (fileOf one (headFor (netOf g) i)) behind-is mark-is
+  held-file = ap₂ (fileOf one (headerFor (netOf g) i)) behind-is mark-is

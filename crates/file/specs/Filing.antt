@@ -14,7 +14,7 @@ use Rattle.network.specs.Layout.{netOf}
 use Rattle.cells.specs.Part.{Part, entryCount, entryAt, siteOf}
 use Rattle.entries.specs.Read.{isStopped}
 use Rattle.table.specs.File.{one, fileOf}
-use Rattle.table.specs.File.{headFor, nodeFile}
+use Rattle.table.specs.File.{headerFor, nodeFile}
 use Rattle.table.specs.declared.Outcome.{Outcome}
 use Rattle.table.specs.declared.Outcome.the-variants.{Written, Refused}
 use Rattle.calls.specs.Calls.{isUnstarted}
@@ -27,7 +27,7 @@ behindFirst f (suc k) = entryAt f (suc k) ∷ behindFirst f k
 
 -- the file that node i's part holds, where its first entry is its own
 abbrev pub heldFile : List ℕ → ℕ → Part → List ℕ
-heldFile g i f = fileOf one (headFor (netOf g) i) (behindFirst f (f entryCount - 1)) (isStopped (siteOf f))
+heldFile g i f = fileOf one (headerFor (netOf g) i) (behindFirst f (f entryCount - 1)) (isStopped (siteOf f))
 
 -- "12, 13": what is refused of a node 1 to n after a run
 abbrev pub lateRefusal : Net → List Step → ℕ → ℕ → ℕ

@@ -42,7 +42,7 @@ fn put_file(net: &[u8], s: &[u16], i: usize, room: &mut [u8]) -> Outcome
     let targets = &s[first + TARGETS..first + TARGETS + MOST];
     let distances = &s[first + DISTANCES..first + DISTANCES + MOST];
     let hops = &s[first + HOPS..first + HOPS + MOST];
-    table::writer::write_file(
+    writer::write_file(
         i as u32,
         net[NODES] as u32,
         net[LMAX] as u32,
@@ -91,7 +91,7 @@ pub fn write_table(net: &[u8], steps: &[u8], node: u32, room: &mut [u8]) -> u32
 pub fn read_entry(file: &[u8], target: u32) -> u32
     ensures { λ r. ⌜ r ≡ readAnswer (entryRead one (now (file .entry)) target) ⌝ }
 {
-    let read = table::reader::read_entry(file, target);
+    let read = reader::read_entry(file, target);
     match read {
         Answer::Entry(distance, hop) => calls::values(hop as u32, distance.0 as u32),
         Answer::Refused(r) => r,
@@ -102,5 +102,5 @@ pub fn read_entry(file: &[u8], target: u32) -> u32
 pub fn read_table(file: &[u8], room: &mut [u16]) -> u32
     ensures { λ r. ⌜ (r ≡ outcomeAnswer (entriesOutcome (reading one (now (file .entry))) (now (room .entry)))) × (now (room .exit) ≡ entriesRoom (reading one (now (file .entry))) (now (room .entry))) ⌝ }
 {
-    packed(table::reader::read_entries(file, room))
+    packed(reader::read_entries(file, room))
 }

@@ -12,8 +12,9 @@ use Rattle.bits.proofs.Field.{field-at-whole}
 use Rattle.method.specs.Network.{IsNode}
 use Rattle.method.specs.Rules.{Filled}
 use Rattle.method.specs.Entries.{lastDistance}
-use Rattle.table.specs.File.{Form, Head, headBits, recordBits, bodyBits, headSize, recordSize, start}
-use Rattle.table.specs.Reader.{walk, recordAt, wrong, headAt}
+use Rattle.table.specs.File.{Form, headerBits, recordBits, bodyBits, headerSize, recordSize, start}
+use Rattle.table.specs.declared.Header.{Header}
+use Rattle.table.specs.Reader.{walk, recordAt, wrong, headerAt}
 use Rattle.table.specs.Laws.{Fits}
 use Rattle.table.proofs.Sizes.{length-record, length-body, start-zero, start-suc}
 use Rattle.table.proofs.Passed.{Next, Passed, not-wrong}
@@ -39,7 +40,7 @@ module _ (A X : List ℕ) (p w₁ w₂ w₃ w₄ v₁ v₂ v₃ v₄ : ℕ) (at 
             ∙ field-at-whole (A ++ asBits w₁ v₁ ++ asBits w₂ v₂ ++ asBits w₃ v₃) _ (p + w₁ + w₂ + w₃) w₄ v₄ (simp (length-append, length-asBits, at)) g₄,
       )
 
-module _ (f : Form) (h : Head) (fits : Fits f (h .n) (h .lmax)) where
+module _ (f : Form) (h : Header) (fits : Fits f (h .n) (h .lmax)) where
   -- a record behind A is read back
   pub record-back : (seen : List Filled) (e : Filled) → Next h seen e → (A X : List ℕ) (p : ℕ) → length A ≡ p
       → (field (A ++ (recordBits f (lastDistance seen) e ++ X)) p 1 ≡ 1) × (recordAt f seen (A ++ (recordBits f (lastDistance seen) e ++ X)) p ≡ e)
@@ -56,7 +57,7 @@ module _ (f : Form) (h : Head) (fits : Fits f (h .n) (h .lmax)) where
 
   -- all records are
   pub walk-all : (es : List Filled) → Passed h es → (t : ℕ) (X : List ℕ)
-      → walk f h (length es + t) [] (bodyBits f h es ++ X) (headSize f) ≡ walk f h t es (bodyBits f h es ++ X) (start f (length es))
+      → walk f h (length es + t) [] (bodyBits f h es ++ X) (headerSize f) ≡ walk f h t es (bodyBits f h es ++ X) (start f (length es))
   unfolding bodyBits
   walk-all [] p t X =
       let z : 0 + t ≡ t = omega arith in
@@ -75,12 +76,12 @@ module _ (f : Form) (h : Head) (fits : Fits f (h .n) (h .lmax)) where
       ∙ ap₂ (λ (x : Filled) (q : ℕ). walk f h t (x ∷ es) (A ++ (E ++ X)) q) (b .1) (sym (start-suc f (length es))))
 
   -- the header is
-  pub head-back : IsNode (h .n) (h .own) → (es : List Filled) (X : List ℕ) → (field (bodyBits f h es ++ X) 0 4 ≡ f .version) × (headAt f (bodyBits f h es ++ X) ≡ h)
-  unfolding bodyBits headBits headAt
-  head-back own [] X =
+  pub header-back : IsNode (h .n) (h .own) → (es : List Filled) (X : List ℕ) → (field (bodyBits f h es ++ X) 0 4 ≡ f .version) × (headerAt f (bodyBits f h es ++ X) ≡ h)
+  unfolding bodyBits headerBits headerAt
+  header-back own [] X =
       let b = four-back [] X 0 4 (f .node) (f .node) (f .len) (f .version) (h .own - 1) (h .n - 1) (h .lmax) refl (fits .version)
       (omega (arith, fits .nodes, own)) (omega (arith, fits .nodes, own)) (fits .lengths .1) in
       let o : h .own - 1 + 1 ≡ h .own = omega (arith, own) in
       let n : h .n - 1 + 1 ≡ h .n = omega (arith, own) in
       (b .0, rw (b .1, b .2, b .3, o, n))
-  head-back own (e ∷ es) X = rw (append-assoc (bodyBits f h es) (recordBits f (lastDistance es) e) X) (head-back own es (recordBits f (lastDistance es) e ++ X))
+  header-back own (e ∷ es) X = rw (append-assoc (bodyBits f h es) (recordBits f (lastDistance es) e) X) (header-back own es (recordBits f (lastDistance es) e ++ X))

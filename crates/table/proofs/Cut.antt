@@ -19,16 +19,17 @@ use Rattle.bits.proofs.Field.{field-behind, field-cut, field-at-whole}
 use Rattle.method.specs.Network.{IsNode}
 use Rattle.method.specs.Rules.{Filled}
 use Rattle.method.specs.Entries.{lastDistance}
-use Rattle.table.specs.File.{Form, Head, recordBits, bodyBits, toEdge, endBits, fileBits, fileOf, headSize, recordSize, start}
-use Rattle.table.specs.Reader.{takes, walk, taken, headAt, headFault, accepted, told, reading, afterZero}
-use Rattle.table.specs.Code.{bytesFor}
+use Rattle.table.specs.File.{Form, recordBits, bodyBits, toEdge, endBits, fileBits, fileOf, headerSize, recordSize, start}
+use Rattle.table.specs.declared.Header.{Header}
+use Rattle.table.specs.Reader.{takes, walk, taken, headerAt, headerFault, accepted, told, reading, afterZero}
+use Rattle.table.specs.Size.{bytesFor}
 use Rattle.table.specs.Laws.{Fits, whole}
 use Rattle.table.specs.declared.Ending.{Ending}
 use Rattle.table.specs.declared.Ending.the-variants.{Unfinished, Marked}
 use Rattle.table.proofs.Sizes.{length-record, length-body, length-file-bits, length-file, file-bits, start-zero, start-suc, few-turns, end-after}
 use Rattle.table.proofs.Passed.{Passed}
 use Rattle.table.proofs.Walk.{walk-none, walk-zero, walk-short}
-use Rattle.table.proofs.Back.{walk-all, head-back}
+use Rattle.table.proofs.Back.{walk-all, header-back}
 use Rattle.table.proofs.Whole.{whole-all, whole-less}
 
 -- bits that begin with a 1, or none
@@ -82,14 +83,14 @@ abbrev pub ending : Bool → Ending
 ending true = Marked
 ending false = Unfinished
 
-module _ (f : Form) (h : Head) (fits : Fits f (h .n) (h .lmax)) where
+module _ (f : Form) (h : Header) (fits : Fits f (h .n) (h .lmax)) where
   -- behind the records stand fewer bits than a record has, from a 1
   stump : (es : List Filled) → Passed h es → (X : List ℕ) → Ones X → length X < recordSize f → (t : ℕ) → length es < t
-      → walk f h t [] (bodyBits f h es ++ X) (headSize f) ≡ takes es Unfinished
+      → walk f h t [] (bodyBits f h es ++ X) (headerSize f) ≡ takes es Unfinished
   stump es passed X ones l t g =
       let e : t ≡ length es + suc (t - suc (length es)) = omega arith in
       let b : length (bodyBits f h es ++ X) ≡ start f (length es) + length X = length-append (bodyBits f h es) X ∙ ap (λ (n : ℕ). n + length X) (length-body f h es) in
-      ap (λ (n : ℕ). walk f h n [] (bodyBits f h es ++ X) (headSize f)) e ∙ walk-all f h fits es passed (suc (t - suc (length es))) X ∙ go b ones
+      ap (λ (n : ℕ). walk f h n [] (bodyBits f h es ++ X) (headerSize f)) e ∙ walk-all f h fits es passed (suc (t - suc (length es))) X ∙ go b ones
     where
       go : length (bodyBits f h es ++ X) ≡ start f (length es) + length X → Ones X
           → walk f h (suc (t - suc (length es))) es (bodyBits f h es ++ X) (start f (length es)) ≡ takes es Unfinished
@@ -103,21 +104,21 @@ module _ (f : Form) (h : Head) (fits : Fits f (h .n) (h .lmax)) where
 
   -- a cut less than a record behind the records
   cut-behind : (es : List Filled) → Passed h es → (T : List ℕ) (q t n : ℕ) → q ≡ start f (length es) + n → n < recordSize f → Ones (take n T) → q ≤ t
-      → walk f h t [] (take q (bodyBits f h es ++ T)) (headSize f) ≡ takes es Unfinished
+      → walk f h t [] (take q (bodyBits f h es ++ T)) (headerSize f) ≡ takes es Unfinished
   cut-behind es passed T q t n e g ones c =
       let d : q ≡ length (bodyBits f h es) + n = omega (arith, length-body f h es) in
-      ap (λ (B : List ℕ). walk f h t [] B (headSize f)) (ap (λ (i : ℕ). take i (bodyBits f h es ++ T)) d ∙ take-append-add (bodyBits f h es) T n)
+      ap (λ (B : List ℕ). walk f h t [] B (headerSize f)) (ap (λ (i : ℕ). take i (bodyBits f h es ++ T)) d ∙ take-append-add (bodyBits f h es) T n)
       ∙ stump es passed (take n T) ones (omega (arith, length-take n T)) t (omega (arith, few-turns f (length es)))
 
   -- at the records' end
   cut-at-end : (es : List Filled) → Passed h es → (T : List ℕ) (q t : ℕ) → q ≡ start f (length es) → q ≤ t
-      → walk f h t [] (take q (bodyBits f h es ++ T)) (headSize f) ≡ takes (whole f q es) Unfinished
+      → walk f h t [] (take q (bodyBits f h es ++ T)) (headerSize f) ≡ takes (whole f q es) Unfinished
   cut-at-end es passed T q t e c =
       cut-behind es passed T q t 0 (omega arith) (omega arith) (inl refl) c ∙ ap (λ (x : List Filled). takes x Unfinished) (sym (whole-all f q es (omega arith)))
 
   -- at q bits, within the records or at their end
-  cut-records : (es : List Filled) → Passed h es → (T : List ℕ) (q t : ℕ) → headSize f ≤ q → q ≤ start f (length es) → q ≤ t
-      → walk f h t [] (take q (bodyBits f h es ++ T)) (headSize f) ≡ takes (whole f q es) Unfinished
+  cut-records : (es : List Filled) → Passed h es → (T : List ℕ) (q t : ℕ) → headerSize f ≤ q → q ≤ start f (length es) → q ≤ t
+      → walk f h t [] (take q (bodyBits f h es ++ T)) (headerSize f) ≡ takes (whole f q es) Unfinished
   unfolding bodyBits
   cut-records [] passed T q t a b c = cut-at-end [] passed T q t (omega (arith, start-zero f)) c
   cut-records (e ∷ es) passed T q t a b c =
@@ -130,8 +131,8 @@ module _ (f : Form) (h : Head) (fits : Fits f (h .n) (h .lmax)) where
       apart = append-assoc (bodyBits f h es) E T
 
       go : (u : Bool) → leb (start f (length (e ∷ es))) q ≡ u → (v : Bool) → leb (start f (length es)) q ≡ v
-          → (q ≤ start f (length es) → walk f h t [] (take q (bodyBits f h es ++ (E ++ T))) (headSize f) ≡ takes (whole f q es) Unfinished)
-          → walk f h t [] (take q (bodyBits f h (e ∷ es) ++ T)) (headSize f) ≡ takes (whole f q (e ∷ es)) Unfinished
+          → (q ≤ start f (length es) → walk f h t [] (take q (bodyBits f h es ++ (E ++ T))) (headerSize f) ≡ takes (whole f q es) Unfinished)
+          → walk f h t [] (take q (bodyBits f h (e ∷ es) ++ T)) (headerSize f) ≡ takes (whole f q (e ∷ es)) Unfinished
       go true u v w ih = cut-at-end (e ∷ es) passed T q t (omega (arith, leb-true (start f (length (e ∷ es))) q u)) c
       go false u true w ih =
           let m : q < start f (length (e ∷ es)) = leb-false (start f (length (e ∷ es))) q u in
@@ -146,7 +147,7 @@ module _ (f : Form) (h : Head) (fits : Fits f (h .n) (h .lmax)) where
           rw (apart, whole-less f q e es m) (ih (omega arith))
 
   -- a whole file
-  read-whole : (es : List Filled) → Passed h es → (mark : Bool) (t : ℕ) → length es < t → walk f h t [] (fileBits f h es mark) (headSize f) ≡ takes es (ending mark)
+  read-whole : (es : List Filled) → Passed h es → (mark : Bool) (t : ℕ) → length es < t → walk f h t [] (fileBits f h es mark) (headerSize f) ≡ takes es (ending mark)
   unfolding fileBits
   read-whole es passed true t g =
       let A : List ℕ = bodyBits f h es in
@@ -156,7 +157,7 @@ module _ (f : Form) (h : Head) (fits : Fits f (h .n) (h .lmax)) where
       let e : t ≡ length es + suc u = omega arith in
       let m = end-marked A p l in
       let b : length (A ++ endBits true p) ≡ p + suc (toEdge (p + 1)) = simp (length-append, length-replicate, l) in
-      ap₂ (λ (n i : ℕ). walk f h n [] (A ++ endBits true i) (headSize f)) e l
+      ap₂ (λ (n i : ℕ). walk f h n [] (A ++ endBits true i) (headerSize f)) e l
       ∙ walk-all f h fits es passed (suc u) (endBits true p)
       ∙ walk-zero f h u es (A ++ endBits true p) p (omega arith) (m .0)
       ∙ ap (takes es) (m .1)
@@ -166,9 +167,9 @@ module _ (f : Form) (h : Head) (fits : Fits f (h .n) (h .lmax)) where
 
   module _ (own : IsNode (h .n) (h .own)) where
     -- what the reader says, once the header and the walk are known
-    read-as : (s B : List ℕ) (es : List Filled) (e : Ending) → bitsOf s ≡ B → 2 ≤ length s → (field B 0 4 ≡ f .version) × (headAt f B ≡ h)
-        → walk f h (length B) [] B (headSize f) ≡ takes es e → reading f s ≡ told h es e
-    unfolding reading headFault taken
+    read-as : (s B : List ℕ) (es : List Filled) (e : Ending) → bitsOf s ≡ B → 2 ≤ length s → (field B 0 4 ≡ f .version) × (headerAt f B ≡ h)
+        → walk f h (length B) [] B (headerSize f) ≡ takes es e → reading f s ≡ told h es e
+    unfolding reading headerFault taken
     read-as s B es e b l k w =
         rw (
           b,
@@ -180,15 +181,15 @@ module _ (f : Form) (h : Head) (fits : Fits f (h .n) (h .lmax)) where
           w,
         )
 
-    head-cut : (L : List ℕ) (q : ℕ) → headSize f ≤ q → q ≤ length L → (field L 0 4 ≡ f .version) × (headAt f L ≡ h) → (field (take q L) 0 4 ≡ f .version) × (headAt f (take q L) ≡ h)
-    unfolding headAt
-    head-cut L q a b k = (
+    header-cut : (L : List ℕ) (q : ℕ) → headerSize f ≤ q → q ≤ length L → (field L 0 4 ≡ f .version) × (headerAt f L ≡ h) → (field (take q L) 0 4 ≡ f .version) × (headerAt f (take q L) ≡ h)
+    unfolding headerAt
+    header-cut L q a b k = (
       field-cut L q 0 4 (omega arith) b ∙ k .0,
       rw (field-cut L q 4 (f .node) (omega arith) b, field-cut L q (4 + f .node) (f .node) (omega arith) b, field-cut L q (4 + f .node + f .node) (f .len) (omega arith) b) (k .1),
     )
 
     -- the cut
-    pub cut : (es : List Filled) → Passed h es → (mark : Bool) (c : ℕ) → headSize f ≤ 8 * c
+    pub cut : (es : List Filled) → Passed h es → (mark : Bool) (c : ℕ) → headerSize f ≤ 8 * c
         → reading f (take c (fileOf f h es mark)) ≡ accepted h (whole f (8 * c) es) (mark && leb (length (fileOf f h es mark)) c)
     unfolding fileBits
     cut es passed mark c a = go (leb (length file) c) refl
@@ -205,8 +206,8 @@ module _ (f : Form) (h : Head) (fits : Fits f (h .n) (h .lmax)) where
         p : ℕ
         p = start f (length es)
 
-        head : (field F 0 4 ≡ f .version) × (headAt f F ≡ h)
-        head = head-back f h fits own es (endBits mark (length (bodyBits f h es)))
+        header : (field F 0 4 ≡ f .version) × (headerAt f F ≡ h)
+        header = header-back f h fits own es (endBits mark (length (bodyBits f h es)))
 
         told-whole : (m : Bool) → told h es (ending m) ≡ accepted h es m
         told-whole true = refl
@@ -216,7 +217,7 @@ module _ (f : Form) (h : Head) (fits : Fits f (h .n) (h .lmax)) where
         go true e =
             let g : length file ≤ c = leb-true (length file) c e in
             rw (take-all c file g, whole-all f q es (omega (arith, length-file f h es mark, end-after mark p)), and-true mark)
-            (read-as file F es (ending mark) (file-bits f h es mark) (omega (arith, length-file f h es mark, end-after mark p, fits .header)) head
+            (read-as file F es (ending mark) (file-bits f h es mark) (omega (arith, length-file f h es mark, end-after mark p, fits .header)) header
             (read-whole es passed mark (length F) (omega (arith, length-file-bits f h es mark, end-after mark p, few-turns f (length es))))
             ∙ told-whole mark)
         go false e =
@@ -225,5 +226,5 @@ module _ (f : Form) (h : Head) (fits : Fits f (h .n) (h .lmax)) where
             let n : q ≤ length F = omega (arith, length-file-bits f h es mark, end-after mark p) in
             rw (and-false mark)
             (read-as (take c file) (take q F) (whole f q es) Unfinished (cut-bits c file ∙ ap (take q) (file-bits f h es mark))
-            (omega (arith, length-take-le c file (omega arith), fits .header)) (head-cut F q a n head)
+            (omega (arith, length-take-le c file (omega arith), fits .header)) (header-cut F q a n header)
             (cut-records es passed (endBits mark (length (bodyBits f h es))) q (length (take q F)) a s (omega (arith, length-take-le q F n))))

@@ -13,8 +13,8 @@ use Rattle.method.specs.Network.{IsNode}
 use Rattle.method.specs.Rules.{Filled, Phase, started, has}
 use Rattle.method.specs.Entries.{Entry, unreachable, find, said, others}
 use Rattle.method.proofs.Table.{in-has, has-true, has-false, Found, find-ok}
-use Rattle.table.specs.File.{Head}
-use Rattle.table.specs.Reader.{accepted, entryIn, refusal, says, entryOf}
+use Rattle.table.specs.declared.Header.{Header}
+use Rattle.table.specs.Reader.{accepted, entryIn, refusal, says, entryFrom}
 use Rattle.table.proofs.Passed.{neither}
 
 -- a target without a record, and one with a record, of which the phase does not matter
@@ -50,14 +50,14 @@ others-append i (e ∷ g) es = go (eqb (e .target) i) (others-append i g es)
     go true ih = ih
     go false ih = ap (λ (r : List Filled). e ∷ r) ih
 
-module _ (h : Head) (es : List Filled) (m : Bool) (y : ℕ) where
+module _ (h : Header) (es : List Filled) (m : Bool) (y : ℕ) where
   -- a node's number is not refused, and what is not refused is a node's number
 
-  pub entry-of : IsNode (h .n) y → entryOf (accepted h es m) y ≡ says (entryIn h es m y)
-  entry-of at = rw (ne-eqb y 0 (omega (arith, at .0)), le-ltb (h .n) y (at .1))
+  pub node-entry : IsNode (h .n) y → entryFrom (accepted h es m) y ≡ says (entryIn h es m y)
+  node-entry at = rw (ne-eqb y 0 (omega (arith, at .0)), le-ltb (h .n) y (at .1))
 
-  pub entry-from : (x : Entry) → entryOf (accepted h es m) y ≡ says x → IsNode (h .n) y × (entryIn h es m y ≡ x)
-  entry-from x e = go (eqb y 0 || ltb (h .n) y) refl e
+  pub entry-node : (x : Entry) → entryFrom (accepted h es m) y ≡ says x → IsNode (h .n) y × (entryIn h es m y ≡ x)
+  entry-node x e = go (eqb y 0 || ltb (h .n) y) refl e
     where
       go : (b : Bool) → eqb y 0 || ltb (h .n) y ≡ b → cond b (refusal 11) (says (entryIn h es m y)) ≡ says x → IsNode (h .n) y × (entryIn h es m y ≡ x)
       go true q w = absurd (let z : _≡_ {A = ℕ} 0 1 = cc in omega arith)
@@ -67,7 +67,7 @@ module _ (h : Head) (es : List Filled) (m : Bool) (y : ℕ) where
           ((omega arith, ltb-false (h .n) y (r .1)), cc)
 
 -- without the end mark nothing is unreachable
-pub unmarked-reachable : (h : Head) (es : List Filled) (y : ℕ) → entryIn h es false y ≢ unreachable
+pub unmarked-reachable : (h : Header) (es : List Filled) (y : ℕ) → entryIn h es false y ≢ unreachable
 unmarked-reachable h es y = go (eqb y (h .own)) (find y es)
   where
     go : (b : Bool) (o : Option Filled) → cond b (Rattle.method.specs.Entries.known 0 0) (said started o) ≢ unreachable

@@ -15,20 +15,20 @@ use Rattle.method.specs.Entries.{lastDistance, Sound, AllSound}
 use Rattle.method.specs.Distinct.{Among}
 use Rattle.method.proofs.Numbers.{few}
 use Rattle.method.proofs.Table.{Has, Once, targets, targets-length, has-false}
-use Rattle.table.specs.File.{Head}
+use Rattle.table.specs.declared.Header.{Header}
 use Rattle.table.specs.Reader.{wrong, wrongFields}
 
 -- a record behind those seen
-pub record Next (h : Head) (seen : List Filled) (e : Filled) : Type 0 where
+pub record Next (h : Header) (seen : List Filled) (e : Filled) : Type 0 where
   pub sound : Sound (h .n) (h .lmax) (h .own) seen e
   pub first : length seen ≡ 0 → 1 ≤ e .distance
 
-abbrev pub Passed : Head → List Filled → Type 0
+abbrev pub Passed : Header → List Filled → Type 0
 Passed h [] = Unit {0}
 Passed h (e ∷ es) = Next h es e × Passed h es
 
 -- the method's records pass
-pub all-passed : (h : Head) (es : List Filled) → AllSound (h .n) (h .lmax) (h .own) es
+pub all-passed : (h : Header) (es : List Filled) → AllSound (h .n) (h .lmax) (h .own) es
     → ((g : List Filled) (e : Filled) → es ≡ g ++ (e ∷ []) → 1 ≤ e .distance) → Passed h es
 all-passed h [] s first = tt
 all-passed h (e ∷ es) s first =
@@ -45,7 +45,7 @@ neither false u e = (refl, e)
 
 -- refusal 17's test says no exactly of a record that goes on
 
-pub not-wrong : (h : Head) (seen : List Filled) (e : Filled) → Next h seen e → wrong h seen e ≡ false
+pub not-wrong : (h : Header) (seen : List Filled) (e : Filled) → Next h seen e → wrong h seen e ≡ false
 unfolding wrong wrongFields
 not-wrong h seen e x =
     let s = x .sound in
@@ -63,7 +63,7 @@ not-wrong h seen e x =
     rises [] g = ne-eqb (e .distance - 0) 0 (omega (arith, g refl))
     rises (x ∷ es) g = rw (ne-eqb (suc (length es)) 0 (omega arith))
 
-pub goes-on : (h : Head) (seen : List Filled) (e : Filled) → 1 ≤ e .target → 1 ≤ e .hop → lastDistance seen ≤ e .distance → wrong h seen e ≡ false → Next h seen e
+pub goes-on : (h : Header) (seen : List Filled) (e : Filled) → 1 ≤ e .target → 1 ≤ e .hop → lastDistance seen ≤ e .distance → wrong h seen e ≡ false → Next h seen e
 unfolding wrong wrongFields
 goes-on h seen e a b c w =
     let w6 = neither _ _ w in
@@ -95,15 +95,15 @@ goes-on h seen e a b c w =
 
 -- no target twice, none is the node itself: fewer records than nodes
 
-pub passed-once : (h : Head) (es : List Filled) → Passed h es → Once es
+pub passed-once : (h : Header) (es : List Filled) → Passed h es → Once es
 passed-once h [] p = tt
 passed-once h (e ∷ es) p = (has-false (e .target) es (p .0 .sound .new), passed-once h es (p .1))
 
-pub passed-nodes : (h : Head) (es : List Filled) → Passed h es → (y : ℕ) → Has y es → IsNode (h .n) y × (y ≢ h .own)
+pub passed-nodes : (h : Header) (es : List Filled) → Passed h es → (y : ℕ) → Has y es → IsNode (h .n) y × (y ≢ h .own)
 passed-nodes h (e ∷ es) p y (inl q) = rw q (p .0 .sound .target, p .0 .sound .other)
 passed-nodes h (e ∷ es) p y (inr m) = passed-nodes h es (p .1) y m
 
-pub few-records : (h : Head) → IsNode (h .n) (h .own) → (es : List Filled) → Passed h es → length es < h .n
+pub few-records : (h : Header) → IsNode (h .n) (h .own) → (es : List Filled) → Passed h es → length es < h .n
 few-records h own es p =
     omega (arith, targets-length es, few (h .n) (h .own ∷ targets es) (λ m. passed-nodes h es p (h .own) m .1 refl, passed-once h es p) node)
   where

@@ -10,12 +10,13 @@ use lib.Dec.{ltb, leb, eqb}
 use borrow.Author.Tests.{lt-ltb, le-ltb, lt-leb, le-leb, eq-eqb, ne-eqb, ltb-false}
 use Rattle.bits.specs.Bits.{field}
 use Rattle.method.specs.Rules.{Filled}
-use Rattle.table.specs.File.{Form, Head, headSize, recordSize}
+use Rattle.table.specs.File.{Form, headerSize, recordSize}
+use Rattle.table.specs.declared.Header.{Header}
 use Rattle.table.specs.Reader.{Taken, takes, walk, taken, recordAt, wrong, afterZero}
 use Rattle.table.specs.declared.Ending.the-variants.{Unfinished, Faulty}
 use Rattle.table.proofs.Passed.{Passed, goes-on}
 
-module _ (f : Form) (h : Head) (t : ℕ) (seen : List Filled) (B : List ℕ) (p : ℕ) where
+module _ (f : Form) (h : Header) (t : ℕ) (seen : List Filled) (B : List ℕ) (p : ℕ) where
   -- no bit is left
   pub walk-none : length B ≤ p → walk f h t seen B p ≡ takes seen Unfinished
   unfolding walk
@@ -42,7 +43,7 @@ module _ (f : Form) (h : Head) (t : ℕ) (seen : List Filled) (B : List ℕ) (p 
   walk-record z s w e =
       rw (lt-leb (length B) p (omega arith), ne-eqb (field B p 1) 0 (omega arith), le-ltb (length B) (p + recordSize f) s, e)
 
-module _ (f : Form) (h : Head) (B : List ℕ) (P : List Filled → ℕ → Type 0)
+module _ (f : Form) (h : Header) (B : List ℕ) (P : List Filled → ℕ → Type 0)
     (one-more : (seen : List Filled) (p : ℕ) → P seen p → p + recordSize f ≤ length B → wrong h seen (recordAt f seen B p) ≡ false
     → P (recordAt f seen B p ∷ seen) (p + recordSize f)) where
   -- what every record taken keeps, holds of all
@@ -68,15 +69,15 @@ module _ (f : Form) (h : Head) (B : List ℕ) (P : List Filled → ℕ → Type 
       go false false false l true e ih = (p, s)
       go false false false l false e ih = ih (ltb-false (length B) (p + recordSize f) l) e
 
-  pub taken-keeps : P [] (headSize f) → (q : ℕ) × P (taken f h B .records) q
+  pub taken-keeps : P [] (headerSize f) → (q : ℕ) × P (taken f h B .records) q
   unfolding taken
-  taken-keeps s = walk-keeps (length B) [] (headSize f) s
+  taken-keeps s = walk-keeps (length B) [] (headerSize f) s
 
 -- a record read from bits has nodes from 1 on, and its distance does not fall
-pub record-passes : (f : Form) (h : Head) (seen : List Filled) (B : List ℕ) (p : ℕ) → Passed h seen → wrong h seen (recordAt f seen B p) ≡ false
+pub record-passes : (f : Form) (h : Header) (seen : List Filled) (B : List ℕ) (p : ℕ) → Passed h seen → wrong h seen (recordAt f seen B p) ≡ false
     → Passed h (recordAt f seen B p ∷ seen)
 unfolding recordAt
 record-passes f h seen B p s w = (goes-on h seen (recordAt f seen B p) (omega arith) (omega arith) (omega arith) w, s)
 
-pub taken-passed : (f : Form) (h : Head) (B : List ℕ) → Passed h (taken f h B .records)
+pub taken-passed : (f : Form) (h : Header) (B : List ℕ) → Passed h (taken f h B .records)
 taken-passed f h B = taken-keeps f h B (λ seen p. Passed h seen) (λ seen p s l w. record-passes f h seen B p s w) tt .1

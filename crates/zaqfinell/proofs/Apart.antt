@@ -24,15 +24,15 @@ use Rattle.network.specs.Pack.{packAnswer}
 use Rattle.network.proofs.Laws.{checks}
 use Rattle.network.proofs.Refused.{second}
 use Rattle.text.specs.Handed.{place}
-use Rattle.table.specs.File.{one, Head}
-use Rattle.table.specs.Reader.{headAt, headFault, taken, Reading, accepted, told, readingBy, reading, entryIn, Read, refusal, says, entryRead}
+use Rattle.table.specs.File.{one}
+use Rattle.table.specs.declared.Header.{Header}
+use Rattle.table.specs.Reader.{headerAt, headerFault, taken, Reading, accepted, told, readingBy, reading, entryIn, Read, refusal, says, entryRead}
 use Rattle.table.specs.Calls.{entryNumbers, entriesOutcome}
 use Rattle.table.specs.declared.Outcome.{Outcome}
 use Rattle.table.specs.declared.Outcome.the-variants.{Written, Refused}
 use Rattle.table.specs.declared.Ending.{Ending}
 use Rattle.table.specs.declared.Ending.the-variants.{Unfinished, Marked, Faulty}
-use Rattle.table.proofs.Listed.{length-numbers}
-use Rattle.table.proofs.Small.{hop-small, numbers-small}
+use Rattle.table.proofs.Small.{hop-small, length-numbers, numbers-small}
 use Rattle.table.proofs.Proved.{at-most-27}
 use Rattle.route.specs.Route.{route}
 use Rattle.route.proofs.Laws.{laws as route-laws}
@@ -141,8 +141,8 @@ list-shows n lmax ar e =
 
 -- how many numbers are written of a file of n nodes
 module _ (s room : List ℕ) where
-  abbrev h : Head
-  h = headAt one (bitsOf s)
+  abbrev h : Header
+  h = headerAt one (bitsOf s)
 
   abbrev Numbers : Reading → Type 0
   Numbers x = (k : ℕ) → entriesOutcome x room ≡ Written k → k ≡ 2 * h .n
@@ -161,14 +161,14 @@ module _ (s room : List ℕ) where
 
   numbers : Numbers (reading one s)
   unfolding reading
-  numbers = go (headFault one h s)
+  numbers = go (headerFault one h s)
     where
       go : (r : ℕ) → Numbers (readingBy one h (bitsOf s) r)
       go zero k e = by-ending (taken one h (bitsOf s) .records) (taken one h (bitsOf s) .ending) k e
       go (suc r) k e = let z : _≡_ {A = ℕ} 0 1 = cc in absurd (omega arith)
 
 table-shows : (s room : List ℕ) (k : ℕ) → entriesOutcome (reading one s) room ≡ Written k
-    → (writtenIn (outcomeAnswer (entriesOutcome (reading one s) room)) ≡ k) × (k ≡ 2 * headAt one (bitsOf s) .n)
+    → (writtenIn (outcomeAnswer (entriesOutcome (reading one s) room)) ≡ k) × (k ≡ 2 * headerAt one (bitsOf s) .n)
 table-shows s room k is = (ap (λ (x : Outcome). writtenIn (outcomeAnswer x)) is ∙ go (numbers-small s room k is), numbers s room k is)
   where
     go : k ≤ 32 → writtenIn (values k 0) ≡ k

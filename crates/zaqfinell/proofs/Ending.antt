@@ -24,7 +24,8 @@ use Rattle.method.proofs.Runs.{Inv, Onward, begun-site, true-lists, step-ok, ru
 use Rattle.method.proofs.Proved.{laws}
 use Rattle.network.specs.Bytes.{network, refusal}
 use Rattle.network.proofs.Laws.{checks}
-use Rattle.entries.specs.Read.{atEnd, isStopped, stoppedTo}
+use Rattle.method.specs.Entries.{hasStopped}
+use Rattle.entries.specs.Read.{isStopped, stoppedTo}
 use Rattle.calls.specs.Calls.{nodesOf, stateAfter, stoppedOf}
 
 -- one of the nodes 1 to k has not stopped
@@ -204,7 +205,7 @@ module _ (net : List ℕ) (e : refusal net ≡ 0) where
       go (inl all) rec = ([], record { each = λ i. omega arith }, ap (stoppedOf net) (append-nil bs) ∙ all)
       go (inr j) rec =
           let s = laws (network net) .e-some-step (accepted .sizes) (accepted .valid) (accepted .positive) (steps bs) (j .0) (j .1)
-          (λ st. true≢false (sym (ap atEnd st) ∙ j .2)) in
+          (λ st. true≢false (sym (ap hasStopped st) ∙ j .2)) in
           let up = rises (network net) (accepted .valid) (stateAfter net bs) (run-ok (network net) (accepted .valid) (steps bs)) (byteStep (s .0)) (s .2) in
           let at = ap (far (network net)) (one-more bs (s .0)) in
           let r = rec (bs ++ (s .0 ∷ [])) (omega arith) in

@@ -14,8 +14,8 @@ use Rattle.method.specs.Entries.{find, said, phase, table}
 use Rattle.method.proofs.Example.{Q, Q-accepted}
 use Rattle.network.specs.Refusal.{arcRefusal, arcsRefusal, joined}
 use Rattle.network.specs.Bytes.{network, headRefusal, refusal}
-use Rattle.table.specs.File.{headBits, recordBits, bodyBits, fileBits, fileOf}
-use Rattle.table.specs.Reader.{reading, headAt, headFault, taken, walk, recordAt, wrong, wrongFields, afterZero}
+use Rattle.table.specs.File.{headerBits, recordBits, bodyBits, fileBits, fileOf}
+use Rattle.table.specs.Reader.{reading, headerAt, headerFault, taken, walk, recordAt, wrong, wrongFields, afterZero}
 use Rattle.table.specs.Laws.{Started}
 use Rattle.table.proofs.Proved.{laws}
 use Rattle.calls.specs.Answers.{entryValues}
@@ -87,7 +87,7 @@ a and b = (a, b)
 
 infixr 5 _and_
 pub examples : Hold cases
-unfolding fileOf fileBits bodyBits headBits recordBits asBits packed number reading headAt headFault taken walk recordAt wrong wrongFields afterZero bitsOf field
+unfolding fileOf fileBits bodyBits headerBits recordBits asBits packed number reading headerAt headerFault taken walk recordAt wrong wrongFields afterZero bitsOf field
 examples =
     told-by all-1
     and told-by all-2
@@ -124,5 +124,5 @@ pub Q-started : Started Q (steps all) 1
 Q-started = (omega arith, λ e. let s : phase Q (steps all) 1 ≡ stopped = all-1 .phase-is in let z : _≡_ {A = ℕ} 0 1 = cc in omega arith)
 
 pub Q-cut-right : Right Q 1 2 1 2
-unfolding run oldest sentAfter fileOf fileBits bodyBits headBits recordBits asBits packed number reading headAt headFault taken walk recordAt wrong wrongFields afterZero bitsOf field
+unfolding run oldest sentAfter fileOf fileBits bodyBits headerBits recordBits asBits packed number reading headerAt headerFault taken walk recordAt wrong wrongFields afterZero bitsOf field
 Q-cut-right = laws Q Q-accepted .c-right (steps all) 1 Q-started 4 (omega arith) 2 1 2 refl

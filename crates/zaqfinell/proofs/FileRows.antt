@@ -15,10 +15,11 @@ use Rattle.method.specs.Distinct.{Among}
 use Rattle.method.specs.Rules.{Filled, has}
 use Rattle.method.specs.Entries.{Entry, lastDistance}
 use Rattle.network.specs.Refusal.{when, _else_, outside}
-use Rattle.table.specs.File.{one, Head}
-use Rattle.table.specs.Reader.{headAt, headFault, recordAt, wrongFields, wrong, afterZero, takes, walk, taken, Reading, refused, accepted, told, readingBy, reading, entryIn, refusal, says, entryOf, entryRead}
+use Rattle.table.specs.File.{one}
+use Rattle.table.specs.declared.Header.{Header}
+use Rattle.table.specs.Reader.{headerAt, headerFault, recordAt, wrongFields, wrong, afterZero, takes, walk, taken, Reading, refused, accepted, told, readingBy, reading, entryIn, refusal, says, entryFrom, entryRead}
 use Rattle.table.specs.Calls.{entriesOutcome}
-use Rattle.table.proofs.Listed.{length-numbers}
+use Rattle.table.proofs.Small.{length-numbers}
 use Rattle.table.specs.declared.Outcome.the-variants.{Written, Refused}
 use Rattle.table.specs.declared.Ending.{Ending}
 use Rattle.table.specs.declared.Ending.the-variants.{Unfinished, Marked, Faulty}
@@ -45,7 +46,7 @@ is-first [] = record { yes = λ _. refl; no = λ e. absurd (true≢false e) }
 is-first (x ∷ es) = record { yes = λ e. absurd (omega (arith, eqb-true (length (x ∷ es)) 0 e)); no = λ _ e. omega (arith, ap length e) }
 
 -- 17, field by field
-module _ (h : Head) (seen : List Filled) (e : Filled) where
+module _ (h : Header) (seen : List Filled) (e : Filled) where
   -- the fields in the order of the tests
   abbrev Fields : Type 0
   Fields =
@@ -85,7 +86,7 @@ ended Marked q = q
 ended (Faulty r) q = r
 
 -- the rows from bit p on: the tests of the reader, in its order
-module _ (h : Head) (turns : ℕ) (seen : List Filled) (B : List ℕ) (p : ℕ) (rows : ℕ → Type 0) (q : ℕ) (ex : Exactly rows q) where
+module _ (h : Header) (turns : ℕ) (seen : List Filled) (B : List ℕ) (p : ℕ) (rows : ℕ → Type 0) (q : ℕ) (ex : Exactly rows q) where
   abbrev Next : ℕ → Type 0
   Next = recordRows h turns (recordAt one seen B p ∷ seen) B (p + 13) rows
 
@@ -130,7 +131,7 @@ module _ (h : Head) (turns : ℕ) (seen : List Filled) (B : List ℕ) (p : ℕ) 
   record-row : (x : ℕ) → Whole B p → Exactly Next x → Exactly (recordRows h (suc turns) seen B p rows) (when (wrong h seen (recordAt one seen B p)) 17 else x)
   record-row x stands next = whole stands _ (by-row 16 _ _ Next x (is-wrong h seen (recordAt one seen B p)) next)
 
-pub by-records : (h : Head) (turns : ℕ) (seen : List Filled) (B : List ℕ) (p : ℕ) (rows : ℕ → Type 0) (q : ℕ) → Exactly rows q
+pub by-records : (h : Header) (turns : ℕ) (seen : List Filled) (B : List ℕ) (p : ℕ) (rows : ℕ → Type 0) (q : ℕ) → Exactly rows q
     → Exactly (recordRows h turns seen B p rows) (ended (walk one h turns seen B p .ending) q)
 unfolding walk
 by-records h zero seen B p rows q ex = ex
@@ -158,15 +159,15 @@ by-records h (suc turns) seen B p rows q ex =
     go false a false b false c false d next = judged false d (record-row h turns seen B p rows q ex _ (eqb-false _ 0 b, ltb-false _ _ c) next)
 
 -- the refusal of a reading, where q is that of what is asked of an accepted file
-abbrev pub settled : Reading → (Head → ℕ) → ℕ
+abbrev pub settled : Reading → (Header → ℕ) → ℕ
 settled (refused r) q = r
 settled (accepted h es mark) q = q h
 
 -- the rows of a file
-pub by-file : (s : List ℕ) (rows : ℕ → Type 0) (q : Head → ℕ) → Exactly rows (q (headAt one (bitsOf s))) → Exactly (fileRows s rows) (settled (reading one s) q)
-unfolding reading headFault taken
+pub by-file : (s : List ℕ) (rows : ℕ → Type 0) (q : Header → ℕ) → Exactly rows (q (headerAt one (bitsOf s))) → Exactly (fileRows s rows) (settled (reading one s) q)
+unfolding reading headerFault taken
 by-file s rows q ex =
-    let h = headAt one (bitsOf s) in
+    let h = headerAt one (bitsOf s) in
     let B = bitsOf s in
     let r17 = by-records h (length B) [] B 16 rows (q h) ex in
     let r16 = by-row 15 (ltb (h .n) (h .own) || eqb (h .lmax) 0) _ _ _ (both _ _ _ _ (less (h .n) (h .own)) (equal (h .lmax) 0)) r17 in
@@ -174,29 +175,29 @@ by-file s rows q ex =
     let r14 = by-row 13 (ltb (length s) 2) _ _ _ (less (length s) 2) r15 in
     same _ _ _ (go (ltb (length s) 2) (not (eqb (field B 0 4) 1)) (ltb (h .n) (h .own) || eqb (h .lmax) 0)) r14
   where
-    tail : (ending : Ending) → ended ending (q (headAt one (bitsOf s))) ≡ settled (told (headAt one (bitsOf s)) (taken one (headAt one (bitsOf s)) (bitsOf s) .records) ending) q
+    tail : (ending : Ending) → ended ending (q (headerAt one (bitsOf s))) ≡ settled (told (headerAt one (bitsOf s)) (taken one (headerAt one (bitsOf s)) (bitsOf s) .records) ending) q
     tail Unfinished = refl
     tail Marked = refl
     tail (Faulty r) = refl
 
-    go : (t u v : Bool) → when t 14 else (when u 15 else (when v 16 else ended (taken one (headAt one (bitsOf s)) (bitsOf s) .ending) (q (headAt one (bitsOf s)))))
-        ≡ settled (readingBy one (headAt one (bitsOf s)) (bitsOf s) (if t then 14 else if u then 15 else if v then 16 else 0)) q
+    go : (t u v : Bool) → when t 14 else (when u 15 else (when v 16 else ended (taken one (headerAt one (bitsOf s)) (bitsOf s) .ending) (q (headerAt one (bitsOf s)))))
+        ≡ settled (readingBy one (headerAt one (bitsOf s)) (bitsOf s) (if t then 14 else if u then 15 else if v then 16 else 0)) q
     go true u v = refl
     go false true v = refl
     go false false true = refl
-    go false false false = tail (taken one (headAt one (bitsOf s)) (bitsOf s) .ending)
+    go false false false = tail (taken one (headerAt one (bitsOf s)) (bitsOf s) .ending)
 
 -- the target asked for
 pub by-read : (s : List ℕ) (y : ℕ) → Exactly (readRows s y) (readRefusal (entryRead one s y))
 by-read s y =
     same _ _ _ (go (reading one s))
-    (by-file s _ (λ h. when (outside (h .n) y) 11) (by-last 10 _ _ (is-outside (headAt one (bitsOf s) .n) y)))
+    (by-file s _ (λ h. when (outside (h .n) y) 11) (by-last 10 _ _ (is-outside (headerAt one (bitsOf s) .n) y)))
   where
     by-test : (t : Bool) (e : Entry) → when t 11 ≡ readRefusal (if t then refusal 11 else says e)
     by-test true e = refl
     by-test false e = refl
 
-    go : (x : Reading) → settled x (λ h. when (outside (h .n) y) 11) ≡ readRefusal (entryOf x y)
+    go : (x : Reading) → settled x (λ h. when (outside (h .n) y) 11) ≡ readRefusal (entryFrom x y)
     go (refused r) = refl
     go (accepted h es mark) = by-test (outside (h .n) y) (entryIn h es mark y)
 
@@ -204,7 +205,7 @@ by-read s y =
 pub by-table : (s room : List ℕ) → Exactly (tableRows s (length room)) (outcomeRefusal (entriesOutcome (reading one s) room))
 by-table s room =
     same _ _ _ (go (reading one s))
-    (by-file s _ (λ h. when (ltb (length room) (2 * h .n)) 13) (by-last 12 _ _ (less (length room) (2 * headAt one (bitsOf s) .n))))
+    (by-file s _ (λ h. when (ltb (length room) (2 * h .n)) 13) (by-last 12 _ _ (less (length room) (2 * headerAt one (bitsOf s) .n))))
   where
     by-test : (t : Bool) (k : ℕ) → when t 13 ≡ outcomeRefusal (if t then Refused 13 else Written k)
     by-test true k = refl

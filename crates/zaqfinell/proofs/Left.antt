@@ -14,8 +14,9 @@ use Rattle.network.specs.Refusal.{when, _else_}
 use Rattle.network.specs.Room.{keptIf, begins}
 use Rattle.network.specs.Bytes.{network, refusal}
 use Rattle.network.proofs.Refused.{not-outside}
-use Rattle.table.specs.File.{one, fileOf, hasStopped}
-use Rattle.table.specs.File.{headFor}
+use Rattle.method.specs.Entries.{hasStopped}
+use Rattle.table.specs.File.{one, fileOf}
+use Rattle.table.specs.File.{headerFor}
 use Rattle.calls.proofs.Ten.{never-ten}
 use Rattle.calls.specs.Answers.{values, entryValues}
 use Rattle.calls.specs.Calls.{nodesOf, isUnstarted, entryAnswer, writeAnswer, writeRoom}
@@ -43,7 +44,7 @@ module _ (net : List ℕ) (n : Net) (bs : List ℕ) (i : ℕ) (ph : Phase) (es :
 
   -- the file of what was left, what is refused of it, and the answer and the room behind that
   abbrev file : List ℕ
-  file = fileOf one (headFor n i) (others i es) (hasStopped ph)
+  file = fileOf one (headerFor n i) (others i es) (hasStopped ph)
 
   abbrev refused : List ℕ → ℕ
   refused room = when (isUnstarted ph) 12 else when (ltb (length room) (length file)) 13

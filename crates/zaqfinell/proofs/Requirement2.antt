@@ -27,7 +27,8 @@ use Rattle.network.proofs.Refused.{inside}
 use Rattle.network.specs.Room.{keptIf, begins}
 use Rattle.network.proofs.Laws.{checks}
 use Rattle.entries.proofs.Reading.{stopped-le}
-use Rattle.entries.specs.Read.{atEnd, isStopped, stoppedTo}
+use Rattle.method.specs.Entries.{hasStopped}
+use Rattle.entries.specs.Read.{isStopped, stoppedTo}
 use Rattle.table.specs.File.{one}
 use Rattle.table.specs.Reader.{entryRead}
 use Rattle.table.proofs.Proved.{laws as file-laws, at-most-27}
@@ -55,7 +56,7 @@ right net bs i y e = go (entryAfter net bs i y) refl
     go (known d h) is = method-laws (network net) .a-filled-is-right (a .accepted .valid) (steps bs) i y d h is
 
 -- a node that counts as stopped has stopped
-at-end : (ph : Phase) → atEnd ph ≡ true → ph ≡ stopped
+at-end : (ph : Phase) → hasStopped ph ≡ true → ph ≡ stopped
 at-end unstarted e = absurd (true≢false (sym e))
 at-end started e = absurd (true≢false (sym e))
 at-end stopped e = refl
@@ -102,7 +103,7 @@ progress : (net bs : List ℕ) → runRefusal net bs ≡ 0 → stoppedOf net bs 
 progress net bs e lt =
     let a = run-accepted net bs e in
     let j = one-working (stateAfter net bs) (nodesOf net) lt in
-    let s = method-laws (network net) .e-some-step (a .sizes) (a .valid) (a .positive) (steps bs) (j .0) (j .1) (λ st. true≢false (sym (ap atEnd st) ∙ j .2)) in (
+    let s = method-laws (network net) .e-some-step (a .sizes) (a .valid) (a .positive) (steps bs) (j .0) (j .1) (λ st. true≢false (sym (ap hasStopped st) ∙ j .2)) in (
       s .0,
       s .1,
       ap (λ (l : List Step). counts (network net) l .taken) (map-append byteStep bs (s .0 ∷ []))

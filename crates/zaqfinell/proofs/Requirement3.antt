@@ -19,10 +19,11 @@ use Rattle.network.specs.Bytes.{network}
 use Rattle.network.specs.Bytes.{refusal as networkRefusal}
 use Rattle.network.proofs.Laws.{checks}
 use Rattle.network.proofs.Refused.{inside}
-use Rattle.table.specs.File.{one, hasStopped}
-use Rattle.table.specs.Reader.{Reading, entryIn, refusal, says, entryOf}
+use Rattle.method.specs.Entries.{hasStopped}
+use Rattle.table.specs.File.{one}
+use Rattle.table.specs.Reader.{Reading, entryIn, refusal, says, entryFrom}
 use Rattle.table.specs.Laws.{Laws}
-use Rattle.table.specs.File.{headFor}
+use Rattle.table.specs.File.{headerFor}
 use Rattle.table.proofs.Proved.{laws as file-laws}
 use Rattle.calls.specs.Answers.{entryValues, readAnswer}
 use Rattle.calls.specs.Calls.{nodesOf, entryAfter, entryRefusal, entryAnswer, fileAfter}
@@ -67,12 +68,12 @@ module _ (net bs : List ℕ) (i c y : ℕ) (written : CanBeWritten net bs i) (fa
   -- the reader refuses a target outside 1 to n
   inside-of : (e : Entry) → cut net bs i c y ≡ says e → IsNode (nodesOf net) y
   inside-of e is = go (outside (nodesOf net) y) refl
-      (sym (ap (λ (x : Reading). entryOf x y) (laws .b-cut (steps bs) i (wr .started) c behind)) ∙ is)
+      (sym (ap (λ (x : Reading). entryFrom x y) (laws .b-cut (steps bs) i (wr .started) c behind)) ∙ is)
     where
       mark : Bool
       mark = hasStopped (phase (network net) (steps bs) i) && leb (length (fileAfter net bs i)) c
 
-      go : (t : Bool) → outside (nodesOf net) y ≡ t → (if t then refusal 11 else says (entryIn (headFor (network net) i) (standing net bs i c) mark y)) ≡ says e → IsNode (nodesOf net) y
+      go : (t : Bool) → outside (nodesOf net) y ≡ t → (if t then refusal 11 else says (entryIn (headerFor (network net) i) (standing net bs i c) mark y)) ≡ says e → IsNode (nodesOf net) y
       go true out z = let q : _≡_ {A = ℕ} 0 1 = cc in absurd (omega arith)
       go false out z = inside (nodesOf net) y out
 

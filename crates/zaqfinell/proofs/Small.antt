@@ -10,8 +10,9 @@ use Rattle.method.specs.Network.{Arc}
 use Rattle.method.specs.Rules.{Filled}
 use Rattle.network.specs.Bytes.{nodes, lmax, count, arcs, refusal}
 use Rattle.network.specs.ArcList.{listRefusal}
-use Rattle.table.specs.File.{one, Head}
-use Rattle.table.specs.Reader.{headAt, recordAt, reading, entryRead}
+use Rattle.table.specs.File.{one}
+use Rattle.table.specs.declared.Header.{Header}
+use Rattle.table.specs.Reader.{headerAt, recordAt, reading, entryRead}
 use Rattle.table.specs.Calls.{entriesOutcome}
 use Rattle.calls.specs.Answers.{readRefusal, outcomeRefusal}
 use Rattle.calls.specs.Calls.{entryRefusal, writeRefusal}
@@ -41,7 +42,7 @@ module _ (k : ℕ) (ten : 10 ≤ k) where
       small-given 1 _ _ (omega arith) (small-given 2 _ _ (omega arith) (small-given 3 _ _ (omega arith) (small-given 4 _ _ (omega arith) (small-given 1 _ _ (omega arith)
       (small-arcs (nodes s) (lmax s) [] (arcs s 0 (count s)) _ (small-given 9 _ _ (omega arith) small))))))
 
-small-records : (h : Head) (turns : ℕ) (seen : List Filled) (B : List ℕ) (p : ℕ) (rows : ℕ → Type 0) → Small 20 rows → Small 20 (recordRows h turns seen B p rows)
+small-records : (h : Header) (turns : ℕ) (seen : List Filled) (B : List ℕ) (p : ℕ) (rows : ℕ → Type 0) → Small 20 rows → Small 20 (recordRows h turns seen B p rows)
 small-records h zero seen B p rows small r x = small r x
 small-records h (suc turns) seen B p rows small r (inl x) =
     small-given 20 (omega arith) 17 _ _ (omega arith) (small-records h turns (recordAt one seen B p ∷ seen) B (p + 13) rows small) r (x .1)
@@ -57,7 +58,7 @@ last-row = small-none 20 (omega arith)
 small-file : (s : List ℕ) (rows : ℕ → Type 0) → Small 20 rows → Small 20 (fileRows s rows)
 small-file s rows small =
     row 14 _ _ (omega arith) (row 15 _ _ (omega arith) (row 16 _ _ (omega arith)
-    (small-records (headAt one (bitsOf s)) (length (bitsOf s)) [] (bitsOf s) 16 rows small)))
+    (small-records (headerAt one (bitsOf s)) (length (bitsOf s)) [] (bitsOf s) 16 rows small)))
 
 pub small-network : (net : List ℕ) → refusal net < 10
 small-network net = small-bytes 10 (omega arith) net _ (small-none 10 (omega arith)) _ (requirement1 .refused .check net .told)

@@ -14,7 +14,7 @@ use Rattle.network.specs.ArcList.{listRefusal}
 use Rattle.network.specs.Pack.{packAnswer}
 use Rattle.text.specs.Handed.{place}
 use Rattle.table.specs.File.{one}
-use Rattle.table.specs.Reader.{headAt, says, reading, entryRead}
+use Rattle.table.specs.Reader.{headerAt, says, reading, entryRead}
 use Rattle.table.specs.Calls.{entriesOutcome}
 use Rattle.table.specs.declared.Outcome.the-variants.{Written}
 use Rattle.calls.specs.Answers.{readAnswer, readRefusal, outcomeAnswer, outcomeRefusal}
@@ -50,7 +50,7 @@ pub record Apart : Type 0 where
   pub read-shows : (file : List ℕ) (y : ℕ) (e : Entry) → entryRead one file y ≡ says e → Shows (readAnswer (entryRead one file y)) e
   pub table-refusal : (file room : List ℕ) → refusalIn (outcomeAnswer (entriesOutcome (reading one file) room)) ≡ outcomeRefusal (entriesOutcome (reading one file) room)
   pub table-shows : (file room : List ℕ) (k : ℕ) → entriesOutcome (reading one file) room ≡ Written k
-      → (writtenIn (outcomeAnswer (entriesOutcome (reading one file) room)) ≡ k) × (k ≡ 2 * headAt one (bitsOf file) .n)
+      → (writtenIn (outcomeAnswer (entriesOutcome (reading one file) room)) ≡ k) × (k ≡ 2 * headerAt one (bitsOf file) .n)
   pub run-shows : (net bs room : List ℕ) (i y : ℕ) → runRefusal net bs ≡ 0 → length room ≡ 512 → IsNode (nodesOf net) i → IsNode (nodesOf net) y
       → (getD (entriesRoom net bs room) (place i y) 0 ≡ distanceOf (entryAfter net bs i y)) × (getD (entriesRoom net bs room) (place i y + 1) 0 ≡ hopOf (entryAfter net bs i y))
   pub entry-refusal : (net bs : List ℕ) (i y : ℕ) → refusalIn (entryAnswer net bs i y) ≡ entryRefusal net bs i y

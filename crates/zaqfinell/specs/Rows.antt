@@ -12,8 +12,9 @@ use Rattle.method.specs.Rules.{Filled, unstarted}
 use Rattle.method.specs.Steps.{sents, steps, run}
 use Rattle.method.specs.Entries.{phase, lastDistance}
 use Rattle.network.specs.Bytes.{version, nodes, lmax, fourth, count, arcs, network, size, padding}
-use Rattle.table.specs.File.{one, Head}
-use Rattle.table.specs.Reader.{headAt, recordAt}
+use Rattle.table.specs.File.{one}
+use Rattle.table.specs.declared.Header.{Header}
+use Rattle.table.specs.Reader.{headerAt, recordAt}
 
 -- row N, "given exactly when" it holds: then the refusal is N; else the rows behind it tell
 abbrev pub _given_else_ : ℕ → Type 0 → (ℕ → Type 0) → ℕ → Type 0
@@ -98,7 +99,7 @@ writeRows net bs i long wide =
 
 -- "a whole record has target over n, the node itself or repeated; first hop over n or the node itself; difference over LMAX; or, in
 -- the first record, difference 0"
-pub data Wrong (h : Head) (seen : List Filled) (e : Filled) : Type 0 where
+pub data Wrong (h : Header) (seen : List Filled) (e : Filled) : Type 0 where
   targetOver : h .n < e .target → Wrong h seen e
   targetOwn : e .target ≡ h .own → Wrong h seen e
   repeated : Among (e .target) (map (λ r. r .target) seen) → Wrong h seen e
@@ -118,7 +119,7 @@ pub record Spoilt (B : List ℕ) (p : ℕ) : Type 0 where
   pub further : (field B (p + 1) (7 - p % 8) ≢ 0) ⊎ (p + (8 - p % 8) < length B)
 
 -- "records in order 17, then 18": from bit p on, behind the records `seen`; there are never more turns than bits
-abbrev pub recordRows : Head → ℕ → List Filled → List ℕ → ℕ → (ℕ → Type 0) → ℕ → Type 0
+abbrev pub recordRows : Header → ℕ → List Filled → List ℕ → ℕ → (ℕ → Type 0) → ℕ → Type 0
 recordRows h zero seen B p rows r = rows r
 recordRows h (suc turns) seen B p rows r =
     (Whole B p × ((17 given Wrong h seen (recordAt one seen B p) else recordRows h turns (recordAt one seen B p ∷ seen) B (p + 13) rows) r))
@@ -132,13 +133,13 @@ fileRows s rows =
     -- "table file version not 1"
     15 given (field (bitsOf s) 0 4 ≢ 1) else
     -- "own number over n, or LMAX 0"
-    16 given ((headAt one (bitsOf s) .n < headAt one (bitsOf s) .own) ⊎ (headAt one (bitsOf s) .lmax ≡ 0)) else
-    recordRows (headAt one (bitsOf s)) (length (bitsOf s)) [] (bitsOf s) 16 rows
+    16 given ((headerAt one (bitsOf s) .n < headerAt one (bitsOf s) .own) ⊎ (headerAt one (bitsOf s) .lmax ≡ 0)) else
+    recordRows (headerAt one (bitsOf s)) (length (bitsOf s)) [] (bitsOf s) 16 rows
 
 -- "then 11 for the target"
 abbrev pub readRows : List ℕ → ℕ → ℕ → Type 0
-readRows s y = fileRows s (11 given Outside (headAt one (bitsOf s) .n) y else none)
+readRows s y = fileRows s (11 given Outside (headerAt one (bitsOf s) .n) y else none)
 
 -- all entries of a file, as 2 × n numbers: 13, as for a file, where they are more than the room has
 abbrev pub tableRows : List ℕ → ℕ → ℕ → Type 0
-tableRows s wide = fileRows s (13 given (wide < 2 * headAt one (bitsOf s) .n) else none)
+tableRows s wide = fileRows s (13 given (wide < 2 * headerAt one (bitsOf s) .n) else none)

@@ -1,0 +1,5 @@
+pub mod Marks
+pub mod Scanning
+pub mod Answering
+pub mod Listed
+pub mod AllRead

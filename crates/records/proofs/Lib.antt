@@ -1,0 +1,2 @@
+pub mod ByteRest
+pub mod SoundHeader
