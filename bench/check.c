@@ -1,12 +1,15 @@
-/* The check of a network's bytes, by the library and by plain C. */
+/* The check of a network's bytes, and of an arc list, by the library and by plain C. */
 #include "bench.h"
 #include "houses.h"
 #include "plain.h"
+#include "../tests/outside/reference.h"
 #include <string.h>
 
 enum { HOUSES = 8, TRIALS = 20000 };
 
 static struct house houses[HOUSES];
+static zaq_arc lists[HOUSES][240];
+static size_t counts[HOUSES];
 static volatile uint32_t sink;
 
 static void by_library(void)
@@ -27,6 +30,24 @@ static void by_plain_O3(void)
         sink = plain_check_O3(houses[k].net, houses[k].net_len);
 }
 
+static void list_by_library(void)
+{
+    for (int k = 0; k < HOUSES; k++)
+        sink = zaq_check_arcs(16, 15, lists[k], counts[k]);
+}
+
+static void list_by_plain_O2(void)
+{
+    for (int k = 0; k < HOUSES; k++)
+        sink = plain_check_arcs_O2(16, 15, lists[k], counts[k]);
+}
+
+static void list_by_plain_O3(void)
+{
+    for (int k = 0; k < HOUSES; k++)
+        sink = plain_check_arcs_O3(16, 15, lists[k], counts[k]);
+}
+
 /* A wrong rival is none: accepted networks, and networks with other bits and lengths, most of which are refused. */
 static void check_rivals(void)
 {
@@ -43,15 +64,57 @@ static void check_rivals(void)
     }
 }
 
-static void one_case(const char *name, unsigned arcs)
+/* The same houses as lists, and lists with other numbers, most of which are refused. */
+static void check_list_rivals(void)
 {
-    const work rivals[] = {by_library, by_plain_O2, by_plain_O3};
-    for (int k = 0; k < HOUSES; k++)
-        build_net(&houses[k], arcs, 15);
-    check_rivals();
+    for (int k = 0; k < TRIALS; k++) {
+        zaq_arc list[240];
+        size_t count = counts[k % HOUSES];
+        uint8_t n = (uint8_t)(k < HOUSES ? 16 : random_below(18)), lmax = (uint8_t)(k < HOUSES ? 15 : random_below(17));
+        memcpy(list, lists[k % HOUSES], sizeof list);
+        for (unsigned changes = k < HOUSES ? 0 : random_below(3); changes > 0; changes--)
+            list[random_below((uint32_t)count)] = (zaq_arc){(uint8_t)random_below(18), (uint8_t)random_below(18), (uint8_t)random_below(17)};
+        struct ref_arc plain[240];
+        struct ref_net net;
+        for (size_t a = 0; a < count; a++)
+            plain[a] = (struct ref_arc){list[a].tail, list[a].head, list[a].length};
+        uint32_t want = ref_read_arc_list(n, lmax, plain, count, &net);
+        if (zaq_check_arcs(n, lmax, list, count) != want || plain_check_arcs_O2(n, lmax, list, count) != want
+            || plain_check_arcs_O3(n, lmax, list, count) != want) {
+            printf("a list of %zu arcs: refusal %u is wanted\n", count, (unsigned)want);
+            exit(1);
+        }
+    }
+}
+
+static void build_lists(void)
+{
+    for (int k = 0; k < HOUSES; k++) {
+        struct ref_net net;
+        ref_read_network(houses[k].net, houses[k].net_len, &net);
+        counts[k] = net.arcs;
+        for (unsigned a = 0; a < net.arcs; a++)
+            lists[k][a] = (zaq_arc){(uint8_t)net.arc[a].tail, (uint8_t)net.arc[a].head, (uint8_t)net.arc[a].len};
+    }
+}
+
+static void time_rivals(const char *name, const work *rivals)
+{
     struct timing t = compare(rivals, 3);
     print_row(name, t.least[LIBRARY] / HOUSES, t, 1.2);
     printf("\n");
+}
+
+static void one_case(unsigned arcs, const char *name, const char *list_name)
+{
+    const work rivals[] = {by_library, by_plain_O2, by_plain_O3}, list_rivals[] = {list_by_library, list_by_plain_O2, list_by_plain_O3};
+    for (int k = 0; k < HOUSES; k++)
+        build_net(&houses[k], arcs, 15);
+    build_lists();
+    check_rivals();
+    check_list_rivals();
+    time_rivals(name, rivals);
+    time_rivals(list_name, list_rivals);
     for (int k = 0; k < HOUSES; k++)
         free(houses[k].steps);
 }
@@ -59,7 +122,7 @@ static void one_case(const char *name, unsigned arcs)
 int main(void)
 {
     begin_table("check of a network", "ns", 1.2);
-    one_case("240 arcs", 240);
-    one_case("47 arcs", 47);
+    one_case(240, "240 arcs", "240 arcs, as a list");
+    one_case(47, "47 arcs", "47 arcs, as a list");
     return 0;
 }

@@ -6,6 +6,7 @@
 
 #define PLAIN_CALLS(level)                                                                                                                 \
     uint32_t plain_check_##level(const uint8_t *net, size_t net_len);                                                                      \
+    uint32_t plain_check_arcs_##level(uint8_t n, uint8_t lmax, const zaq_arc *arcs, size_t count);                                         \
     uint32_t plain_run_##level(                                                                                                            \
         const uint8_t *net, size_t net_len, const uint8_t *steps, size_t steps_len, uint64_t counts[4], uint16_t entries[16][16][2]);      \
     uint32_t plain_write_##level(                                                                                                          \

@@ -11,7 +11,7 @@ compile="${CC:-cc} -std=c99 -Wall -Wextra -Werror"
 
 # the competitor at both levels, the houses, and the outside tests' simulation, which says what is right
 parts=("$out/houses.o" "$out/reference.o" "$out/reference_run.o")
-for source in plain_run plain_read plain_shortest; do
+for source in plain_run plain_list plain_read plain_shortest; do
     for level in O2 O3; do
         $compile "-$level" -DLEVEL="$level" -c "bench/$source.c" -o "$out/${source}_$level.o"
         parts+=("$out/${source}_$level.o")

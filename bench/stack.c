@@ -15,6 +15,8 @@ static uint8_t packed[ZAQ_NETWORK_ROOM];
 static volatile size_t sink;
 
 #define RUN house.net, house.net_len, house.steps, house.steps_len
+#define LIST 16, 15, arcs, NET_ARCS
+#define LIST_RUN LIST, house.steps, house.steps_len
 
 static void nothing(void)
 {
@@ -63,7 +65,32 @@ static void read_table(void)
 
 static void pack_network(void)
 {
-    sink = zaq_pack_network(16, 15, arcs, NET_ARCS, packed);
+    sink = zaq_pack_network(LIST, packed);
+}
+
+static void check_arcs(void)
+{
+    sink = zaq_check_arcs(LIST);
+}
+
+static void run_arcs(void)
+{
+    sink = zaq_run_arcs(LIST_RUN, counts, entries);
+}
+
+static void entry_arcs(void)
+{
+    sink = zaq_entry_arcs(LIST_RUN, 1, 16);
+}
+
+static void route_arcs(void)
+{
+    sink = zaq_route_arcs(LIST_RUN, 1, 16, way);
+}
+
+static void write_table_arcs(void)
+{
+    sink = zaq_write_table_arcs(LIST_RUN, 1, file, sizeof file);
 }
 
 /* In the order of the table; 0 is wanted where nothing is said. */
@@ -81,6 +108,11 @@ static const struct {
     {"zaq_read_entry", read_entry, READ_CALL},
     {"zaq_read_table", read_table, READ_CALL},
     {"zaq_pack_network", pack_network, 0},
+    {"zaq_check_arcs", check_arcs, 0},
+    {"zaq_run_arcs", run_arcs, WHOLE_CALL},
+    {"zaq_entry_arcs", entry_arcs, WHOLE_CALL},
+    {"zaq_route_arcs", route_arcs, WHOLE_CALL},
+    {"zaq_write_table_arcs", write_table_arcs, WHOLE_CALL},
 };
 
 /* What a call touches below this frame. No call stands between the filling and the counting but the one that is measured. */

@@ -11,8 +11,8 @@ static const char *const names[] = {"", "television", "soundbar", "repeater", "k
 static const zaq_arc arcs[] = {{1, 2, 2}, {2, 1, 2}, {1, 3, 1}, {3, 1, 7}, {2, 4, 3}, {3, 4, 4}, {4, 2, 1}, {5, 1, 1}, {5, 4, 2}};
 enum { ARCS = sizeof arcs / sizeof *arcs };
 
-static uint8_t net[ZAQ_NETWORK_ROOM], steps[MOST_STEPS];
-static size_t net_len, steps_len;
+static uint8_t steps[MOST_STEPS];
+static size_t steps_len;
 
 static int refused(const char *what, uint32_t answer)
 {
@@ -32,7 +32,7 @@ static int run_to_the_end(void)
     do {
         for (uint8_t arc = 1; arc <= ARCS; arc++)
             steps[steps_len++] = (uint8_t)(arc + 15);
-        if (refused("the run", zaq_run(net, net_len, steps, steps_len, counts, entries)))
+        if (refused("the run", zaq_run_arcs(DEVICES, LMAX, arcs, ARCS, steps, steps_len, counts, entries)))
             return 0;
     } while (counts[3] < DEVICES && steps_len + ARCS <= MOST_STEPS);
     return counts[3] == DEVICES;
@@ -41,7 +41,7 @@ static int run_to_the_end(void)
 static void tell_route(uint32_t from, uint32_t to)
 {
     uint8_t way[ZAQ_ROUTE_ROOM];
-    uint32_t answer = zaq_route(net, net_len, steps, steps_len, from, to, way);
+    uint32_t answer = zaq_route_arcs(DEVICES, LMAX, arcs, ARCS, steps, steps_len, from, to, way);
     if (refused("the route", answer))
         return;
     if (zaq_distance(answer) == ZAQ_UNKNOWN) {
@@ -58,10 +58,8 @@ static void tell_route(uint32_t from, uint32_t to)
 
 int main(void)
 {
-    uint32_t packed = zaq_pack_network(DEVICES, LMAX, arcs, ARCS, net);
-    if (refused("the house", packed))
+    if (refused("the house", zaq_check_arcs(DEVICES, LMAX, arcs, ARCS)))
         return 1;
-    net_len = zaq_written(packed);
     if (!run_to_the_end()) {
         fprintf(stderr, "not all devices have stopped\n");
         return 1;

@@ -23,7 +23,8 @@ extern "C" {
  * itself 1 to 15. Two devices on one cable are two arcs.
  *
  * Network bytes: 4 bits each: version 1, n - 1, LMAX, 0; 8 bits: the arc count; then for each arc 4 bits each: tail - 1, head - 1, length;
- * zero bits to the byte's end. The most significant bit is first. zaq_pack_network makes them of a list.
+ * zero bits to the byte's end. The most significant bit is first. zaq_pack_network makes them of a list, and each call that takes them,
+ * but zaq_house_table, takes a list too.
  *
  * A step is one byte. 0 to 15: start node byte + 1. 16 to 255: deliver the oldest undelivered message of arc byte - 15, numbered from 1 in
  * the network's order. A step that names no node or arc is counted unknown; a second start, or a delivery where nothing is undelivered,
@@ -123,15 +124,26 @@ uint32_t zaq_entry(const uint8_t *net, size_t net_len, const uint8_t *steps, siz
 enum { ZAQ_ROUTE_ROOM = 16 };
 uint32_t zaq_route(const uint8_t *net, size_t net_len, const uint8_t *steps, size_t steps_len, uint32_t node, uint32_t target, uint8_t room[ZAQ_ROUTE_ROOM]);
 
-/* A network handed over as a list of arcs: writes its bytes at the room's start, zaq_written of them; every other call takes these, and
- * steps number the arcs as the list does. The room's other bytes stay. Refusals: 19, 3, 4, then arc by arc 5 to 8. The numbers are bytes:
- * check a wider one before it is cut to 8 bits.
+/* ---- A network handed over as a list of arcs ----
+ *
+ * n, LMAX and the arcs stand in the place of the network's bytes, and steps number the arcs as the list does. All else is as in the call
+ * without `_arcs`: what it answers, what it writes, what it refuses, but that the network's refusals are those of a list: 19, 3, 4, then
+ * arc by arc 5 to 8. The numbers are bytes: check a wider one before it is cut to 8 bits.
  */
 typedef struct zaq_arc {
     uint8_t tail;
     uint8_t head;
     uint8_t length;
 } zaq_arc;
+uint32_t zaq_check_arcs(uint8_t n, uint8_t lmax, const zaq_arc *arcs, size_t arcs_len);
+uint32_t zaq_write_table_arcs(uint8_t n, uint8_t lmax, const zaq_arc *arcs, size_t arcs_len, const uint8_t *steps, size_t steps_len, uint32_t node, uint8_t *room, size_t room_len);
+uint32_t zaq_run_arcs(uint8_t n, uint8_t lmax, const zaq_arc *arcs, size_t arcs_len, const uint8_t *steps, size_t steps_len, uint64_t counts[4], uint16_t entries[16][16][2]);
+uint32_t zaq_entry_arcs(uint8_t n, uint8_t lmax, const zaq_arc *arcs, size_t arcs_len, const uint8_t *steps, size_t steps_len, uint32_t node, uint32_t target);
+uint32_t zaq_route_arcs(uint8_t n, uint8_t lmax, const zaq_arc *arcs, size_t arcs_len, const uint8_t *steps, size_t steps_len, uint32_t node, uint32_t target, uint8_t room[ZAQ_ROUTE_ROOM]);
+
+/* The list as network bytes, at the room's start: zaq_written of them, which the calls without `_arcs` take. The room's other bytes stay.
+ * Refusals: the list's.
+ */
 enum { ZAQ_NETWORK_ROOM = 363 };
 uint32_t zaq_pack_network(uint8_t n, uint8_t lmax, const zaq_arc *arcs, size_t arcs_len, uint8_t room[ZAQ_NETWORK_ROOM]);
 

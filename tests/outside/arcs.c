@@ -1,5 +1,4 @@
-/* A network handed over as a list of arcs: its bytes, its refusals in document 01's order, and that every other call takes them. */
-#include "../../include/zaqfinell.h"
+/* A network handed over as a list of arcs: its check, its bytes, its refusals in document 01's order by every call that takes a list. */
 #include "test.h"
 #include <string.h>
 
@@ -26,6 +25,7 @@ static unsigned same_packing(uint8_t n, uint8_t lmax, size_t count, const char *
     about_number("LMAX", lmax);
     about("arcs", (const uint8_t *)list, count * sizeof *list);
     const zaq_arc *lent = (const zaq_arc *)at_edge(0, (const uint8_t *)list, count * sizeof *list);
+    same_answer(CHECK_ARCS, zaq_check_arcs(n, lmax, lent, count), refusal, what);
     same_answer(PACK, zaq_pack_network(n, lmax, lent, count, got.bytes), right, what);
     check(memcmp(&got, &want, sizeof got) == 0, "the room holds the network's bytes and nothing else");
     return refusal;
@@ -82,6 +82,33 @@ static void spoil(uint8_t *n, uint8_t *lmax, size_t *count, unsigned number)
     }
 }
 
+static struct rooms {
+    uint64_t counts[4];
+    uint16_t entries[16][16][2];
+    uint8_t route[ZAQ_ROUTE_ROOM], file[ZAQ_FILE_ROOM];
+} rooms, kept;
+
+/* No call runs a list that is refused, whatever else is asked, and all rooms stay as they were. */
+static void refused_everywhere(uint8_t n, uint8_t lmax, size_t count, unsigned refusal)
+{
+    uint8_t steps[20];
+    uint32_t asked[MOST_ASKED], node = random_below(18), target = random_below(18);
+    unsigned asks = asked_nodes(16, asked);
+    random_steps(&net, 7, steps, sizeof steps);
+    node = random_below(2) ? node : asked[random_below(asks)];
+    memset(&rooms, (int)random_below(256), sizeof rooms);
+    memcpy(&kept, &rooms, sizeof rooms);
+    about_number("node", node);
+    about_number("target", target);
+    const zaq_arc *lent = (const zaq_arc *)at_edge(0, (const uint8_t *)list, count * sizeof *list);
+    const uint8_t *lent_steps = at_edge(1, steps, sizeof steps);
+    same_answer(RUN_ARCS, zaq_run_arcs(n, lmax, lent, count, lent_steps, sizeof steps, rooms.counts, rooms.entries), refusal, "a refused list is not run");
+    same_answer(ENTRY_ARCS, zaq_entry_arcs(n, lmax, lent, count, lent_steps, sizeof steps, node, target), refusal, "a refused list has no entry");
+    same_answer(ROUTE_ARCS, zaq_route_arcs(n, lmax, lent, count, lent_steps, sizeof steps, node, target, rooms.route), refusal, "a refused list has no route");
+    same_answer(WRITE_ARCS, zaq_write_table_arcs(n, lmax, lent, count, lent_steps, sizeof steps, node, rooms.file, random_below(28)), refusal, "a refused list has no file");
+    check(memcmp(&rooms, &kept, sizeof rooms) == 0, "a refused list changes no room");
+}
+
 static void faults(void)
 {
     static const unsigned numbers[] = {19, 3, 4, 5, 6, 7, 8};
@@ -92,7 +119,9 @@ static void faults(void)
         spoil(&n, &lmax, &count, numbers[random_below(7)]);
         if (n < 17 && lmax < 16 && round % 2)
             spoil(&n, &lmax, &count, numbers[random_below(7)]);
-        same_packing(n, lmax, count, "a list with one fault or two");
+        unsigned refusal = same_packing(n, lmax, count, "a list with one fault or two");
+        if (refusal)
+            refused_everywhere(n, lmax, count, refusal);
     }
 }
 

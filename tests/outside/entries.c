@@ -1,5 +1,4 @@
 /* One entry and one route after a run, for every node and target, against the simulation and against the network's own arcs. */
-#include "../../include/zaqfinell.h"
 #include "test.h"
 #include <string.h>
 
@@ -61,14 +60,30 @@ static int joined(unsigned node, unsigned target, const uint8_t *nodes, unsigned
     return at == target && sum == distance;
 }
 
-static void same_entry(uint32_t node, uint32_t target, unsigned refusal)
+/* The network as bytes, or as an arc list, and the steps, each at the end of memory. */
+static uint32_t ask_entry(enum call call, uint32_t node, uint32_t target)
 {
-    uint32_t right = refusal ? refusal : entry_answer(ref_entry_of(&run, node, target));
-    uint32_t answer = zaq_entry(at_edge(0, bytes, net_len), net_len, at_edge(1, steps, step_count), step_count, node, target);
-    same_answer(ENTRY, answer, right, "one entry after a run");
+    const uint8_t *lent = at_edge(1, steps, step_count);
+    if (call == ENTRY)
+        return zaq_entry(at_edge(0, bytes, net_len), net_len, lent, step_count, node, target);
+    return zaq_entry_arcs((uint8_t)net.n, (uint8_t)net.lmax, list_at_edge(&net), net.arcs, lent, step_count, node, target);
 }
 
-static void same_route(uint32_t node, uint32_t target, unsigned refusal)
+static uint32_t ask_route(enum call call, uint32_t node, uint32_t target)
+{
+    const uint8_t *lent = at_edge(1, steps, step_count);
+    if (call == ROUTE)
+        return zaq_route(at_edge(0, bytes, net_len), net_len, lent, step_count, node, target, got.nodes);
+    return zaq_route_arcs((uint8_t)net.n, (uint8_t)net.lmax, list_at_edge(&net), net.arcs, lent, step_count, node, target, got.nodes);
+}
+
+static void same_entry(enum call call, uint32_t node, uint32_t target, unsigned refusal)
+{
+    uint32_t right = refusal ? refusal : entry_answer(ref_entry_of(&run, node, target));
+    same_answer(call, ask_entry(call, node, target), right, "one entry after a run");
+}
+
+static void same_route(enum call call, uint32_t node, uint32_t target, unsigned refusal)
 {
     memset(&got, (int)random_below(256), sizeof got);
     memcpy(&want, &got, sizeof got);
@@ -77,8 +92,8 @@ static void same_route(uint32_t node, uint32_t target, unsigned refusal)
         unsigned count = simulated_route(node, target, want.nodes);
         right = (uint32_t)header_distance(ref_entry_of(&run, node, target)) << 16 | count << 8;
     }
-    uint32_t answer = zaq_route(at_edge(0, bytes, net_len), net_len, at_edge(1, steps, step_count), step_count, node, target, got.nodes);
-    same_answer(ROUTE, answer, right, "one route after a run");
+    uint32_t answer = ask_route(call, node, target);
+    same_answer(call, answer, right, "one route after a run");
     check(memcmp(&got, &want, sizeof got) == 0, "the room holds the nodes passed and nothing else");
     if (refusal == 0 && zaq_distance(answer) < ZAQ_UNREACHABLE && zaq_hop(answer) <= ZAQ_ROUTE_ROOM)
         check(joined(node, target, got.nodes, zaq_hop(answer), zaq_distance(answer)), "arcs join the nodes passed");
@@ -90,8 +105,12 @@ static void both(uint32_t node, uint32_t target, unsigned refusal)
     about("steps", steps, step_count);
     about_number("node", node);
     about_number("target", target);
-    same_entry(node, target, refusal);
-    same_route(node, target, refusal);
+    same_entry(ENTRY, node, target, refusal);
+    same_route(ROUTE, node, target, refusal);
+    if (refusal && refusal != 11)
+        return; /* of the bytes alone */
+    same_entry(ENTRY_ARCS, node, target, refusal);
+    same_route(ROUTE_ARCS, node, target, refusal);
 }
 
 static void every_pair(void)

@@ -1,5 +1,4 @@
 /* Document 01's examples, those marked P and the two that are not, with the numbers that 01 gives. */
-#include "../../include/zaqfinell.h"
 #include "test.h"
 #include <string.h>
 

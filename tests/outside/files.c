@@ -1,5 +1,4 @@
 /* The table file of every node after many runs, byte for byte, in rooms of every size; refusals in document 01's order. */
-#include "../../include/zaqfinell.h"
 #include "test.h"
 #include <string.h>
 
@@ -44,6 +43,17 @@ static uint32_t wanted(uint32_t node, size_t size)
     return (uint32_t)len << 8;
 }
 
+/* The same file, of the network as an arc list. */
+static void same_file_of_list(const uint8_t *lent_steps, uint32_t node, size_t size)
+{
+    memset(&got, (int)random_below(256), sizeof got);
+    memcpy(&want, &got, sizeof got);
+    uint32_t right = wanted(node, size);
+    uint32_t answer = zaq_write_table_arcs((uint8_t)net.n, (uint8_t)net.lmax, list_at_edge(&net), net.arcs, lent_steps, step_count, node, got.bytes, size);
+    same_answer(WRITE_ARCS, answer, right, "writing a file of an arc list");
+    check(memcmp(&got, &want, sizeof got) == 0, "the room holds the arc list's file and nothing else");
+}
+
 static uint32_t same_file(uint32_t node, size_t size)
 {
     memset(&got, (int)random_below(256), sizeof got);
@@ -57,6 +67,8 @@ static uint32_t same_file(uint32_t node, size_t size)
     uint32_t answer = zaq_write_table(lent_net, net_len, lent_steps, step_count, node, got.bytes, size);
     same_answer(WRITE, answer, right, "writing a file");
     check(memcmp(&got, &want, sizeof got) == 0, "the room holds the file and nothing else");
+    if (net_refusal == 0)
+        same_file_of_list(lent_steps, node, size);
     return answer;
 }
 

@@ -1,6 +1,5 @@
 /* Requirements 2 and 3 for whole runs: what the library says of a house after a step list, against a simulation of document 01's rules
  * and against shortest chains by definition. The library hands it over as the text of House table. */
-#include "../../include/zaqfinell.h"
 #include "test.h"
 #include <stdio.h>
 #include <string.h>

@@ -1,7 +1,6 @@
 /* A writer that is killed: a child process writes a table file byte by byte and is killed behind byte k, for every k. The parent reads
  * what has remained. */
 #define _POSIX_C_SOURCE 200809L
-#include "../../include/zaqfinell.h"
 #include "test.h"
 #include <signal.h>
 #include <stdio.h>

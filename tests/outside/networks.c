@@ -1,5 +1,4 @@
 /* Requirement 1 for networks: refused with document 01's number, exactly when it says so. */
-#include "../../include/zaqfinell.h"
 #include "test.h"
 #include <string.h>
 

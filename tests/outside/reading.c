@@ -1,5 +1,4 @@
 /* Reading table files: every cut, every changed bit, every file of up to 3 bytes, every first record, and random files with faults. */
-#include "../../include/zaqfinell.h"
 #include "test.h"
 #include <string.h>
 

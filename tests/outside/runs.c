@@ -1,6 +1,5 @@
-/* Requirement 2 for whole runs: the counts and every entry of zaq_run, against the simulation and against shortest chains, and what it
- * leaves alone in both rooms. */
-#include "../../include/zaqfinell.h"
+/* Requirement 2 for whole runs: the counts and every entry of zaq_run and zaq_run_arcs, against the simulation and against shortest
+ * chains, and what they leave alone in both rooms. */
 #include "test.h"
 #include <string.h>
 
@@ -33,18 +32,36 @@ static void outcome(void)
         }
 }
 
-static void same_run(size_t len, size_t count, unsigned refusal, const char *what)
+/* Both rooms as they are before the call, and as they must be behind it. */
+static void lay_rooms(unsigned refusal)
 {
     memset(&got, (int)random_below(256), sizeof got);
     memcpy(&want, &got, sizeof got);
     if (refusal == 0)
         outcome();
+}
+
+/* The same network handed over as an arc list. */
+static void same_run_of_list(const uint8_t *lent_steps, size_t count, const char *what)
+{
+    lay_rooms(0);
+    const zaq_arc *list = list_at_edge(&net);
+    uint32_t answer = zaq_run_arcs((uint8_t)net.n, (uint8_t)net.lmax, list, net.arcs, lent_steps, count, got.counts, got.entries);
+    same_answer(RUN_ARCS, answer, 0, what);
+    check(memcmp(&got, &want, sizeof got) == 0, "both rooms hold the outcome of the arc list and nothing else");
+}
+
+static void same_run(size_t len, size_t count, unsigned refusal, const char *what)
+{
+    lay_rooms(refusal);
     about("network", bytes, len);
     about("steps", steps, count);
     const uint8_t *lent_net = at_edge(0, bytes, len), *lent_steps = at_edge(1, steps, count);
     same_answer(RUN, zaq_run(lent_net, len, lent_steps, count, got.counts, got.entries), refusal, what);
     check(memcmp(&got, &want, sizeof got) == 0, "both rooms hold the outcome and nothing else");
-    check(memcmp(lent_net, bytes, len) == 0 && memcmp(lent_steps, steps, count) == 0, "zaq_run leaves its inputs alone");
+    if (refusal == 0)
+        same_run_of_list(lent_steps, count, what);
+    check(memcmp(lent_net, bytes, len) == 0 && memcmp(lent_steps, steps, count) == 0, "runs leave their inputs alone");
 }
 
 static size_t simulate(size_t count)
@@ -66,6 +83,7 @@ static void entries_are_true(size_t count)
             else
                 right &= e[1] == ZAQ_NO_HOP;
             saw_distance(RUN, e[0]);
+            saw_distance(RUN_ARCS, e[0]);
         }
     check(right, "entries are the distances and first hops over all chains");
     check(got.counts[0] + got.counts[1] + got.counts[2] == count, "the three counts add up to the list's length");

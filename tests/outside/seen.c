@@ -1,6 +1,5 @@
 /* How often each refusal and each kind of answer was seen, call by call; and inputs at the end of memory. */
 #define _DEFAULT_SOURCE
-#include "../../include/zaqfinell.h"
 #include "test.h"
 #include <stdio.h>
 #include <stdlib.h>
@@ -27,13 +26,18 @@ static const struct {
     [ENTRY] = {"zaq_entry", 1, {1, 2, 3, 4, 5, 6, 7, 8, 9, 11}},
     [ROUTE] = {"zaq_route", 1, {1, 2, 3, 4, 5, 6, 7, 8, 9, 11}},
     [PACK] = {"zaq_pack_network", 0, {3, 4, 5, 6, 7, 8, 19}},
+    [CHECK_ARCS] = {"zaq_check_arcs", 0, {3, 4, 5, 6, 7, 8, 19}},
+    [WRITE_ARCS] = {"zaq_write_table_arcs", 0, {3, 4, 5, 6, 7, 8, 11, 12, 13, 19}},
+    [RUN_ARCS] = {"zaq_run_arcs", 1, {3, 4, 5, 6, 7, 8, 19}},
+    [ENTRY_ARCS] = {"zaq_entry_arcs", 1, {3, 4, 5, 6, 7, 8, 11, 19}},
+    [ROUTE_ARCS] = {"zaq_route_arcs", 1, {3, 4, 5, 6, 7, 8, 11, 19}},
 };
 
 void same_answer(enum call call, uint32_t got, uint32_t want, const char *what)
 {
     check(got == want, what);
     refusals[call][zaq_refusal(got)]++;
-    if (zaq_refusal(got) == 0 && (call == READ_ENTRY || call == ENTRY || call == ROUTE))
+    if (zaq_refusal(got) == 0 && promised[call].entries && call != READ_TABLE && call != RUN && call != RUN_ARCS)
         saw_distance(call, zaq_distance(got));
 }
 
@@ -107,4 +111,12 @@ const uint8_t *at_edge(unsigned place, const uint8_t *bytes, size_t len)
         exit(2);
     }
     return memcpy(end[place] - len, bytes, len);
+}
+
+const zaq_arc *list_at_edge(const struct ref_net *net)
+{
+    zaq_arc list[MOST_ARCS];
+    for (unsigned k = 0; k < net->arcs; k++)
+        list[k] = (zaq_arc){(uint8_t)net->arc[k].tail, (uint8_t)net->arc[k].head, (uint8_t)net->arc[k].len};
+    return (const zaq_arc *)at_edge(2, (const uint8_t *)list, net->arcs * sizeof *list);
 }

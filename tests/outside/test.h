@@ -1,6 +1,7 @@
 /* What every outside test shares: counting, what was seen, a random source with a printed seed, random houses, step lists and faults. */
 #ifndef TEST_H
 #define TEST_H
+#include "../../include/zaqfinell.h"
 #include "reference.h"
 #include <stddef.h>
 #include <stdint.h>
@@ -15,7 +16,7 @@ void about_number(const char *name, uint32_t number);
 
 /* ---- seen.c: the calls that can refuse, and what they have answered */
 
-enum call { CHECK, WRITE, READ_ENTRY, READ_TABLE, RUN, ENTRY, ROUTE, PACK, CALLS };
+enum call { CHECK, WRITE, READ_ENTRY, READ_TABLE, RUN, ENTRY, ROUTE, PACK, CHECK_ARCS, WRITE_ARCS, RUN_ARCS, ENTRY_ARCS, ROUTE_ARCS, CALLS };
 /* A call's answer is the one wanted; its refusal is counted. */
 void same_answer(enum call call, uint32_t got, uint32_t want, const char *what);
 /* A distance or mark that a call handed over is counted. */
@@ -26,6 +27,8 @@ unsigned header_hop(struct ref_entry e);
 uint32_t entry_answer(struct ref_entry e);
 /* The bytes, copied so that they end where memory ends: whoever reads further crashes. A place (0 to 2) holds one copy at a time. */
 const uint8_t *at_edge(unsigned place, const uint8_t *bytes, size_t len);
+/* The network as an arc list that ends where memory ends, in place 2. */
+const zaq_arc *list_at_edge(const struct ref_net *net);
 
 /* ---- random.c */
 

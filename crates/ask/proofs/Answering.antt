@@ -11,8 +11,9 @@ use Rattle.method.specs.Distance.{FirstHop}
 use Rattle.method.specs.Entries.{Entry, unknown, unreachable, known}
 use Rattle.method.specs.Marks.{distanceOf, hopOf}
 use Rattle.method.proofs.Proved.{laws as method-laws}
-use Rattle.network.specs.Room.{keptIf, begins}
+use Rattle.method.specs.Room.{keptIf, begins}
 use Rattle.network.specs.Layout.{netOf}
+use Rattle.network.specs.Checked.{Checked}
 use Rattle.network.proofs.Refused.{second, first, kept}
 use Rattle.cells.specs.Part.{Part, entryCount, stateOf}
 use Rattle.cells.specs.Caches.{Marks}
@@ -27,7 +28,7 @@ use Rattle.calls.specs.Calls.{entryRefusal, entryAfter, entryAnswer, passed, no
 use Rattle.ask.specs.Asking.{Ready, nodesOn}
 
 -- what is refused is answered, and the room stays
-module _ (net bs : List ℕ) (i y f : ℕ) (is : f ≡ entryRefusal net bs i y) (ne : f ≡ 0 → ⊥) where
+module _ (net : Checked) (bs : List ℕ) (i y f : ℕ) (is : f ≡ entryRefusal net bs i y) (ne : f ≡ 0 → ⊥) where
   pub entry-refused : f ≡ entryAnswer net bs i y
   entry-refused = is ∙ sym (first (entryRefusal net bs i y) (entryValues (entryAfter net bs i y)) (λ z. ne (is ∙ z)))
 
@@ -48,7 +49,7 @@ room-begins unknown xs room = refl
 room-begins unreachable xs room = refl
 room-begins (known d h) xs room = let n : 0 + length xs ≡ length xs = omega arith in ap (λ (k : ℕ). xs ++ drop k room) n
 
-module _ (net bs : List ℕ) (m : ℕ → Part) (i y : ℕ) (q : Ready net bs m i y) where
+module _ (net : Checked) (bs : List ℕ) (m : ℕ → Part) (i y : ℕ) (q : Ready net bs m i y) where
   abbrev e : Entry
   e = entryOf (stateOf m i) y
 

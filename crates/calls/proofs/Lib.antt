@@ -1,1 +1,3 @@
 pub mod Ten
+pub mod Alike
+pub mod Handed

@@ -7,11 +7,10 @@ use Prim.Native.Nat.{ℕ}
 use Rattle.method.specs.Steps.{steps}
 use Rattle.method.proofs.Proved.{laws as method-laws}
 use Rattle.network.specs.Refusal.{when}
-use Rattle.network.specs.Bytes.{network, refusal}
-use Rattle.network.proofs.Laws.{checks}
+use Rattle.network.specs.Checked.{Checked, OfMethod}
 use Rattle.calls.specs.Calls.{tenRefusal}
 
-pub never-ten : (net bs : List ℕ) → refusal net ≡ 0 → tenRefusal net bs ≡ 0
-never-ten net bs e =
-    let a = checks .bytes-accepted net e in
-    ap (λ (t : Bool). when t 10) (method-laws (network net) .j-never-10 (a .sizes) (a .valid) (steps bs))
+pub never-ten : (net : Checked) (bs : List ℕ) → OfMethod net → net .refused ≡ 0 → tenRefusal net bs ≡ 0
+never-ten net bs sound e =
+    let a = sound e in
+    ap (λ (t : Bool). when t 10) (method-laws (net .meant) .j-never-10 (a .sizes) (a .valid) (steps bs))

@@ -1,4 +1,4 @@
--- The refusals of `write_table` in 01's order, and the answer and the room behind each.
+-- The refusals of `write` in 01's order, and the answer and the room behind each.
 -- Assumes nothing.
 use mathlib.Core.Path.{_≡_, refl, sym, ap, subst, _∙_}
 use mathlib.Core.Logic.{_≢_}
@@ -9,17 +9,14 @@ use native.Mathlib.Omega.{arith}
 use lib.Dec.{ltb, eqb}
 use lib.ListN.{length}
 use borrow.Author.Tests.{eqb-true, ne-eqb, lt-ltb}
-use Rattle.method.specs.Network.{Net, IsNode}
+use Rattle.method.specs.Network.{IsNode}
 use Rattle.method.specs.Rules.{Phase, unstarted, started, stopped}
 use Rattle.method.specs.Steps.{State, steps, Counts}
 use Rattle.method.specs.Entries.{phase}
 use Rattle.network.specs.Refusal.{when, _else_, outside}
-use Rattle.network.specs.Room.{keptIf, begins}
-use Rattle.network.specs.Bytes.{network, refusal}
-use Rattle.network.specs.Layout.{netOf, Laid}
-use Rattle.network.specs.LaidOut.{laidOut}
+use Rattle.method.specs.Room.{keptIf, begins}
+use Rattle.network.specs.Layout.{netOf, Laid, fromLayout}
 use Rattle.network.proofs.Refused.{not-outside}
-use Rattle.network.proofs.Laws.{checks}
 use Rattle.cells.specs.Part.{Part, phaseAt, phaseOf}
 use Rattle.run.specs.Ran.{Ran}
 use Rattle.table.specs.File.{one}
@@ -30,7 +27,7 @@ use Rattle.table.specs.declared.Outcome.the-variants.{Written, Refused}
 use Rattle.table.proofs.Proved.{at-most-27}
 use Rattle.calls.proofs.Ten.{never-ten}
 use Rattle.calls.specs.Answers.{values, outcomeAnswer}
-use Rattle.calls.specs.Calls.{isUnstarted, writeAnswer, writeRoom, nodesOf}
+use Rattle.calls.specs.Calls.{isUnstarted, writeAnswer, writeRoom}
 use Rattle.file.specs.Filing.{heldFile, lateAnswer, lateRoom, Packs}
 use Rattle.file.proofs.Records.{held-file}
 
@@ -98,38 +95,24 @@ module _ (g bs : List ℕ) (m : ℕ → Part) (c : Counts) (laid : Laid g) (ran 
 pub beyond : (m y : ℕ) → m < y → outside m y ≡ true
 beyond m y h = rw (ne-eqb y 0 (omega arith), lt-ltb m y h)
 
--- a network that is not refused is laid out as the run asks
-module _ (net : List ℕ) (f : ℕ) (e : f ≡ refusal net) (z : f ≡ 0) (g : List ℕ) (is : g ≡ laidOut (network net)) where
-  laid-out : Laid g × (netOf g ≡ network net)
-  laid-out = checks .bytes-laid net g (sym e ∙ z) is
-
-  pub taken-laid : Laid g
-  taken-laid = laid-out .0
-
-  pub nodes-laid : netOf g .n ≡ nodesOf net
-  nodes-laid = ap (λ (n : Net). n .n) (laid-out .1)
-
 -- the whole order: a refused network, then 11; 10 is never given
-module _ (net bs : List ℕ) (i : ℕ) (room : List ℕ) (f : ℕ) (e : f ≡ refusal net) where
-  pub refused-first : f ≢ 0 → (f ≡ writeAnswer net bs i room) × (room ≡ writeRoom net bs i room)
-  refused-first ne = go f e ne
+module _ (f : ℕ) (g bs : List ℕ) (i : ℕ) (room : List ℕ) where
+  -- an answer and a room of the call
+  abbrev Writes : ℕ → List ℕ → Type 0
+  Writes r after = (r ≡ writeAnswer (fromLayout f g) bs i room) × (after ≡ writeRoom (fromLayout f g) bs i room)
+
+  pub refused-first : f ≢ 0 → Writes f room
+  refused-first ne = go f ne
     where
-      go : (f : ℕ) → f ≡ refusal net → f ≢ 0 → (f ≡ writeAnswer net bs i room) × (room ≡ writeRoom net bs i room)
-      go zero e ne = absurd (ne refl)
-      go (suc f) e ne = rw (← e) (refl, refl)
+      go : (f : ℕ) → f ≢ 0 → (f ≡ writeAnswer (fromLayout f g) bs i room) × (room ≡ writeRoom (fromLayout f g) bs i room)
+      go zero ne = absurd (ne refl)
+      go (suc f) ne = (refl, refl)
 
-  pub refused-11 : f ≡ 0 → outside (nodesOf net) i ≡ true → (11 ≡ writeAnswer net bs i room) × (room ≡ writeRoom net bs i room)
-  refused-11 z out = let q : refusal net ≡ 0 = sym e ∙ z in rw (q, out) (refl, refl)
+  pub refused-11 : f ≡ 0 → outside (netOf g .n) i ≡ true → Writes 11 room
+  refused-11 z out = rw (z, out) (refl, refl)
 
--- a node of a network that is not refused: 12 and 13 are left
-pub only-late : (net bs : List ℕ) (i : ℕ) (room : List ℕ) → refusal net ≡ 0 → IsNode (nodesOf net) i
-    → (writeAnswer net bs i room ≡ lateAnswer (network net) (steps bs) i room) × (writeRoom net bs i room ≡ lateRoom (network net) (steps bs) i room)
-only-late net bs i room none at = rw (none, not-outside (nodesOf net) i (at .0) (at .1), never-ten net bs none) (refl, refl)
-
-pub taken-late : (net bs : List ℕ) (i : ℕ) (room : List ℕ) (f : ℕ) (e : f ≡ refusal net) (z : f ≡ 0) (g : List ℕ) → g ≡ laidOut (network net)
-    → IsNode (netOf g .n) i → (r : ℕ) (after : List ℕ) → (r ≡ lateAnswer (netOf g) (steps bs) i room) × (after ≡ lateRoom (netOf g) (steps bs) i room)
-    → (r ≡ writeAnswer net bs i room) × (after ≡ writeRoom net bs i room)
-taken-late net bs i room f e z g is at r after both =
-    let late = only-late net bs i room (sym e ∙ z) (omega (arith, nodes-laid net f e z g is, at)) in
-    let n = laid-out net f e z g is .1 in
-    (both .0 ∙ ap (λ (n : Net). lateAnswer n (steps bs) i room) n ∙ sym (late .0), both .1 ∙ ap (λ (n : Net). lateRoom n (steps bs) i room) n ∙ sym (late .1))
+  -- a node of a network that is not refused: 12 and 13 are left
+  pub only-late : f ≡ 0 → Laid g → IsNode (netOf g .n) i → (r : ℕ) (after : List ℕ)
+      → (r ≡ lateAnswer (netOf g) (steps bs) i room) × (after ≡ lateRoom (netOf g) (steps bs) i room) → Writes r after
+  only-late z laid at r after both =
+      rw (z, not-outside (netOf g .n) i (at .0) (at .1), never-ten (fromLayout f g) bs (λ e. laid .accepted) z) both

@@ -9,7 +9,7 @@ use Rattle.method.specs.Rules.{Filled}
 use Rattle.method.specs.Steps.{Step}
 use Rattle.method.specs.Entries.{phase}
 use Rattle.network.specs.Refusal.{when, _else_}
-use Rattle.network.specs.Room.{keptIf, begins}
+use Rattle.method.specs.Room.{keptIf, begins}
 use Rattle.network.specs.Layout.{netOf}
 use Rattle.cells.specs.Part.{Part, entryCount, entryAt, siteOf}
 use Rattle.entries.specs.Read.{isStopped}

@@ -4,15 +4,17 @@ ghost use Prim.Native.Nat.{_≤_, _<_};
 ghost use lib.ListN.{length};
 ghost use Rattle.method.specs.Network.{IsNode};
 ghost use Rattle.method.specs.Steps.{steps};
-ghost use Rattle.network.specs.Layout.{netOf, Laid};
+ghost use Rattle.network.specs.Layout.{netOf, Laid, fromLayout};
+ghost use Rattle.network.specs.Checked.{fromBytes};
 ghost use Rattle.cells.specs.Part.{cells, stateSize, entryCount};
 ghost use Rattle.table.specs.File.{one};
 ghost use Rattle.table.specs.Reader.{reading, entryRead};
-ghost use Rattle.table.specs.Calls.{outcome, roomAfter, entriesOutcome, entriesRoom};
+ghost use Rattle.table.specs.Calls.{outcome, roomAfter, entriesOutcome, tableRoom};
 ghost use Rattle.calls.specs.Answers.{readAnswer, outcomeAnswer};
 ghost use Rattle.calls.specs.Calls.{writeAnswer, writeRoom};
 ghost use Rattle.file.specs.Filing.{heldFile, lateAnswer, lateRoom, Packs};
 use cells::*;
+use list::Listed;
 use table::Answer;
 use table::Outcome;
 
@@ -68,15 +70,15 @@ fn run_and_write(net: &[u8], bytes: &[u8], i: usize, room: &mut [u8]) -> u32
     packed(put_file(net, &s, i, room))
 }
 
-// Runs the steps over a network's bytes and writes one node's file from the room's start on; how many bytes it has. The rest of the
-// room stays. Refusals 1 to 9, then 11 to 13.
-pub fn write_table(net: &[u8], steps: &[u8], node: u32, room: &mut [u8]) -> u32
-    ensures { λ r. ⌜ (r ≡ writeAnswer (now (net .entry)) (now (steps .entry)) node (now (room .entry))) × (now (room .exit) ≡ writeRoom (now (net .entry)) (now (steps .entry)) node (now (room .entry))) ⌝ }
+// Runs the steps over a network and writes one node's file from the room's start on; how many bytes it has. The rest of the room stays.
+// The network is laid out behind its refusal; then 11 to 13.
+pub fn write(refused: u32, laid: &[u8; 772], steps: &[u8], node: u32, room: &mut [u8]) -> u32
+    requires { ⌜ (refused ≡ 0 → Laid (now laid)) ⌝ }
+    ensures { λ r. ⌜ (r ≡ writeAnswer (fromLayout refused (now (laid .entry))) (now (steps .entry)) node (now (room .entry)))
+        × (now (room .exit) ≡ writeRoom (fromLayout refused (now (laid .entry))) (now (steps .entry)) node (now (room .entry))) ⌝ }
 {
-    let mut laid = [255u8; 772];
-    let f = network::lay(net, &mut laid);
-    if f != 0 {
-        return f;
+    if refused != 0 {
+        return refused;
     }
     if node == 0 {
         return 11;
@@ -84,7 +86,26 @@ pub fn write_table(net: &[u8], steps: &[u8], node: u32, room: &mut [u8]) -> u32
     if (laid[NODES] as u32) < node {
         return 11;
     }
-    run_and_write(&laid, steps, node as usize, room)
+    run_and_write(laid, steps, node as usize, room)
+}
+
+// The same of a network's bytes.
+pub fn write_of_bytes(net: &[u8], steps: &[u8], node: u32, room: &mut [u8]) -> u32
+    ensures { λ r. ⌜ (r ≡ writeAnswer (fromBytes (now (net .entry))) (now (steps .entry)) node (now (room .entry)))
+        × (now (room .exit) ≡ writeRoom (fromBytes (now (net .entry))) (now (steps .entry)) node (now (room .entry))) ⌝ }
+{
+    let mut laid = [255u8; 772];
+    let refused = network::lay(net, &mut laid);
+    write(refused, &laid, steps, node, room)
+}
+
+// The same of a network that was handed over as an arc list.
+pub fn write_of_list(l: Listed, steps: &[u8], node: u32, room: &mut [u8]) -> u32
+    requires { ⌜ (l .refused ≡ 0 → Laid (l .laid)) ⌝ }
+    ensures { λ r. ⌜ (r ≡ writeAnswer (fromLayout (l .refused) (l .laid)) (now (steps .entry)) node (now (room .entry)))
+        × (now (room .exit) ≡ writeRoom (fromLayout (l .refused) (l .laid)) (now (steps .entry)) node (now (room .entry))) ⌝ }
+{
+    write(l.refused, &l.laid, steps, node, room)
 }
 
 // The entry for a target in a table file. Refusals 14 to 18, then 11.
@@ -100,7 +121,7 @@ pub fn read_entry(file: &[u8], target: u32) -> u32
 
 // All entries of a table file of n nodes, as 2 * n numbers from the room's start on. Refusals 14 to 18, then 13.
 pub fn read_table(file: &[u8], room: &mut [u16]) -> u32
-    ensures { λ r. ⌜ (r ≡ outcomeAnswer (entriesOutcome (reading one (now (file .entry))) (now (room .entry)))) × (now (room .exit) ≡ entriesRoom (reading one (now (file .entry))) (now (room .entry))) ⌝ }
+    ensures { λ r. ⌜ (r ≡ outcomeAnswer (entriesOutcome (reading one (now (file .entry))) (now (room .entry)))) × (now (room .exit) ≡ tableRoom (reading one (now (file .entry))) (now (room .entry))) ⌝ }
 {
     packed(reader::read_entries(file, room))
 }

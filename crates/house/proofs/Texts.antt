@@ -13,13 +13,13 @@ use borrow.Rule.Slice.PartAt.{part-to-end}
 use Rattle.method.specs.Network.{IsNode, Accepted}
 use Rattle.method.specs.Steps.{steps}
 use Rattle.method.proofs.Proved.{laws as method-laws}
-use Rattle.network.specs.Bytes.{network, refusal, headRefusal}
-use Rattle.network.specs.Room.{keptIf, begins}
-use Rattle.network.proofs.Laws.{checks}
+use Rattle.network.specs.Bytes.{refusal, headRefusal}
+use Rattle.network.specs.Checked.{Checked, fromBytes, OfMethod}
+use Rattle.method.specs.Room.{keptIf, begins}
 use Rattle.network.proofs.Refused.{none}
-use Rattle.network.proofs.Header.{header}
+use Rattle.network.proofs.BeforeArcs.{header}
 use Rattle.text.specs.Lines.{houseText, refusedLine}
-use Rattle.text.specs.Handed.{entryOf, entryAt}
+use Rattle.text.specs.Handed.{entryBy, entryAt}
 use Rattle.text.specs.Room.{Front}
 use Rattle.text.proofs.Laws.{laws as text-laws}
 use Rattle.calls.specs.Answers.{withRows}
@@ -38,26 +38,24 @@ within-room room text after r front =
     let sum = length-append text (drop (length text) room) in
     omega (arith, front .whole)
 
--- the text of a network's bytes and step bytes
-abbrev pub textFor : List ℕ → List ℕ → List ℕ
-textFor net bs = textOf (runRefusal net bs) (network net) (steps bs)
+-- the text of a network, however it is handed over, and step bytes
+abbrev pub textFor : Checked → List ℕ → List ℕ
+textFor net bs = textOf (runRefusal net bs) (net .meant) (steps bs)
 
 -- where they are refused it is the refusal's line
-pub refused-text : (net bs : List ℕ) (r : ℕ) → r ≡ runRefusal net bs → (r ≡ 0 → ⊥) → refusedLine r ≡ textFor net bs
+pub refused-text : (net : Checked) (bs : List ℕ) (r : ℕ) → r ≡ runRefusal net bs → (r ≡ 0 → ⊥) → refusedLine r ≡ textFor net bs
 refused-text net bs zero is ne = absurd (ne refl)
-refused-text net bs (suc r) is ne = ap (λ (q : ℕ). textOf q (network net) (steps bs)) is
+refused-text net bs (suc r) is ne = ap (λ (q : ℕ). textOf q (net .meant) (steps bs)) is
+
+-- bytes that are not refused are three or more
+pub three : (s bs : List ℕ) → runRefusal (fromBytes s) bs ≡ 0 → 3 ≤ length s
+unfolding refusal
+three s bs z = header s (none (headRefusal s) _ (none (refusal s) (tenRefusal (fromBytes s) bs) z .0) .0) .three
 
 -- where they are not, it is that of the counts and entries that were handed over
-module _ (net bs : List ℕ) (z : runRefusal net bs ≡ 0) where
-  taken : refusal net ≡ 0
-  taken = none (refusal net) (tenRefusal net bs) z .0
-
-  accepted : Accepted (network net)
-  accepted = checks .bytes-accepted net taken
-
-  pub three : 3 ≤ length net
-  unfolding refusal
-  three = header net (none (headRefusal net) _ taken .0) .three
+module _ (net : Checked) (sound : OfMethod net) (bs : List ℕ) (z : runRefusal net bs ≡ 0) where
+  accepted : Accepted (net .meant)
+  accepted = sound (none (net .refused) (tenRefusal net bs) z .0)
 
   module _ (room : List ℕ) (size : length room ≡ 512) where
     abbrev rows : List ℕ
@@ -74,16 +72,16 @@ module _ (net bs : List ℕ) (z : runRefusal net bs ≡ 0) where
     same-entry i k at to =
         let few = accepted .sizes .nodes .1 in
         let s = rows-stand (entryAfter net bs) (nodesOf net) (nodesOf net) room i k few few size at to in
-        ap₂ entryOf (s .0) (s .1)
+        ap₂ entryBy (s .0) (s .1)
         ∙ text-laws .handed (entryAfter net bs i k)
-        (λ d h is. method-laws (network net) .j-no-mark (accepted .sizes) (accepted .valid) (steps bs) i k d h at is)
+        (λ d h is. method-laws (net .meant) .j-no-mark (accepted .sizes) (accepted .valid) (steps bs) i k d h at is)
 
     pub handed-text : (n : ℕ) (numbers numbers′ room′ : List ℕ) → n ≡ nodesOf net → numbers′ ≡ countsRoom net bs numbers → room′ ≡ entriesRoom net bs room
         → houseText (getD numbers′ 0 0) (getD numbers′ 1 0) (getD numbers′ 2 0) (getD numbers′ 3 0) n (entryAt room′) ≡ textFor net bs
     handed-text n numbers numbers′ room′ en N R =
         rw (N ∙ ap (λ (r : ℕ). keptIf r numbers (begins (countsAfter net bs) numbers)) z, written room′ R, en)
         (text-laws .same-text _ _ _ _ (nodesOf net) _ (entryAfter net bs) same-entry
-        ∙ ap (λ (r : ℕ). textOf r (network net) (steps bs)) (sym z))
+        ∙ ap (λ (r : ℕ). textOf r (net .meant) (steps bs)) (sym z))
 
 -- a part that would end behind the list ends with it
 take-within : (k : ℕ) (s : List ℕ) → take (min k (length s)) s ≡ take k s
@@ -124,5 +122,5 @@ module _ (input : List ℕ) (end : ℕ) (is : end ≡ min (asked input) (length 
   first-size = let e = length-take end input in omega arith
 
   -- so their text is the input's
-  pub parts-text : textFor (take end input) (take (length input - end) (drop end input)) ≡ text input
-  parts-text = ap₂ textFor first-part second-part
+  pub parts-text : textFor (fromBytes (take end input)) (take (length input - end) (drop end input)) ≡ text input
+  parts-text = ap₂ (λ (s bs : List ℕ). textFor (fromBytes s) bs) first-part second-part

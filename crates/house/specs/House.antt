@@ -7,6 +7,7 @@ use Rattle.method.specs.Network.{Net}
 use Rattle.method.specs.Steps.{Step, steps, run, counts}
 use Rattle.method.specs.Entries.{entry}
 use Rattle.network.specs.Bytes.{count, size, network}
+use Rattle.network.specs.Checked.{fromBytes}
 use Rattle.entries.specs.Read.{stoppedTo}
 use Rattle.text.specs.Lines.{houseText, refusedLine}
 use Rattle.calls.specs.Calls.{runRefusal}
@@ -25,7 +26,7 @@ stepBytes input = drop (asked input) input
 
 -- "Input that ends inside the network is refusal 1, in its usual place"; the run's refusal, 10, comes after the network's
 abbrev pub inputRefusal : List ℕ → ℕ
-inputRefusal input = runRefusal (networkBytes input) (stepBytes input)
+inputRefusal input = runRefusal (fromBytes (networkBytes input)) (stepBytes input)
 
 -- "one line of counts" ("S is how many nodes have stopped"), "then for each node and target in rising order" its line
 abbrev pub tableText : Net → List Step → List ℕ

@@ -29,7 +29,7 @@ pub fn house_table(input: &[u8], room: &mut [u8; 8192]) -> usize
     let net = &input[..end];
     let mut counts = [0u64; 4];
     let mut entries = [0u16; 512];
-    let refusal = outcome::outcome(net, &input[end..], &mut counts, &mut entries);
+    let refusal = outcome::of_bytes(net, &input[end..], &mut counts, &mut entries);
     if refusal != 0 {
         return text::refused(room, refusal as u64);
     }

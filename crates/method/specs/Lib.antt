@@ -1,4 +1,5 @@
 pub mod If
+pub mod Room
 pub mod Distinct
 pub mod Network
 pub mod Distance

@@ -14,7 +14,7 @@ use Rattle.network.specs.Refusal.{when, _else_, arcsRefusal}
 use Rattle.network.specs.Bytes.{nodes, lmax, count, arcs, padding, headRefusal, refusal}
 use Rattle.network.specs.ArcList.{sizeRefusal, listRefusal}
 use Rattle.network.proofs.Refused.{none, not-outside}
-use Rattle.network.proofs.Header.{Headed, header}
+use Rattle.network.proofs.BeforeArcs.{Headed, header}
 
 pub length-arcs : (s : List ℕ) (k m : ℕ) → length (arcs s k m) ≡ m
 length-arcs s k zero = refl

@@ -2,7 +2,7 @@
 -- Assumes nothing.
 use mathlib.Core.Path.{_≡_, refl}
 use mathlib.Core.List.{List, [], _∷_, map}
-use Prim.Native.Nat.{ℕ, _*_}
+use Prim.Native.Nat.{ℕ}
 use lib.ListN.{replicate}
 use Rattle.bits.specs.Bits.{asBits, bitsOf, number, field, packed}
 use Rattle.method.specs.Network.{Arc}
@@ -10,7 +10,6 @@ use Rattle.method.proofs.Example.{Q}
 use Rattle.network.specs.Refusal.{joined, arcRefusal, arcsRefusal}
 use Rattle.network.specs.Bytes.{network, headRefusal, refusal, arcBits, netBits, bytesOf}
 use Rattle.network.specs.ArcList.{sizeRefusal, listRefusal}
-use Rattle.network.specs.Pack.{packAnswer}
 
 abbrev arc : ℕ → ℕ → ℕ → Arc
 arc i j l = record { tail = i; head = j; len = l }
@@ -19,7 +18,7 @@ arc i j l = record { tail = i; head = j; len = l }
 abbrev bytes : ℕ → List ℕ
 bytes l = 18 ∷ 64 ∷ 4 ∷ 1 ∷ 17 ∷ 33 ∷ 2 ∷ 34 ∷ l ∷ []
 
-abbrev list : ℕ → List Arc
+abbrev pub list : ℕ → List Arc
 list l = arc 1 2 1 ∷ arc 2 3 1 ∷ arc 1 3 2 ∷ arc 3 1 l ∷ []
 
 -- "Arc length 4 in Q taken, 5 refused with 7"
@@ -39,11 +38,6 @@ Q-network = refl
 pub Q-packed : bytesOf 3 4 (list 4) ≡ bytes 4
 unfolding packed netBits arcBits number asBits
 Q-packed = refl
-
--- nine bytes, or the refusal
-pub Q-answers : map (λ (l : ℕ). packAnswer 3 4 (list l)) (4 ∷ 5 ∷ []) ≡ 256 * 9 ∷ 7 ∷ []
-unfolding sizeRefusal listRefusal arcsRefusal arcRefusal joined
-Q-answers = refl
 
 -- two nodes and one arc, with its last byte's second half as padding
 abbrev pair : ℕ → ℕ → ℕ → ℕ → ℕ → List ℕ

@@ -3,13 +3,10 @@ pub mod Sound
 pub mod WithArc
 pub mod LaidOut
 pub mod Packed
-pub mod Header
+pub mod BeforeArcs
 pub mod AsList
 pub mod Marks
 pub mod OneMore
 pub mod Whole
-pub mod Pairs
-pub mod Written
-pub mod ByRecord
 pub mod Laws
 pub mod Example

@@ -17,7 +17,7 @@ use Rattle.method.specs.Network.{Arc}
 use Rattle.method.specs.Network.{house}
 use Rattle.network.specs.Refusal.{arcsRefusal}
 use Rattle.network.specs.Bytes.{version, nodes, lmax, fourth, count, arcs, network, size, spare, padding, headRefusal, refusal, arcBits, netBits, bytesOf}
-use Rattle.network.specs.Pairs.{AllFit}
+use Rattle.network.specs.Fits.{AllFit}
 use Rattle.network.proofs.Refused.{not-outside}
 use Rattle.network.proofs.Sound.{each-sound, Taken}
 

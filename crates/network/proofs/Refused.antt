@@ -8,7 +8,7 @@ use native.Mathlib.Omega.{arith}
 use lib.Dec.{ltb, eqb}
 use borrow.Author.Tests.{eqb-false, ltb-false, ne-eqb, le-ltb}
 use Rattle.network.specs.Refusal.{when, _else_, outside}
-use Rattle.network.specs.Room.{keptIf}
+use Rattle.method.specs.Room.{keptIf}
 
 -- of two refusals, none
 pub none : (q r : ℕ) → q else r ≡ 0 → (q ≡ 0) × (r ≡ 0)

@@ -15,7 +15,7 @@ use Rattle.network.specs.Bytes.{nodes, lmax, count, arcs, spare, padding
 use Rattle.network.specs.LaidOut.{headed}
 use Rattle.network.specs.Marks.{marksRefusal}
 use Rattle.network.proofs.Refused.{first, second}
-use Rattle.network.proofs.Header.{Headed, header}
+use Rattle.network.proofs.BeforeArcs.{Headed, header}
 use Rattle.network.proofs.AsList.{length-arcs}
 use Rattle.network.proofs.Marks.{marks-refuse-all}
 

@@ -4,13 +4,8 @@ use Prim.Native.Nat.{ℕ}
 use mathlib.Core.List.{List, []}
 use lib.ListN.{length}
 use lib.Dec.{ltb}
-use Rattle.method.specs.Network.{Arc as MethodArc}
-use Rattle.network.specs.Refusal.{asArc, when, _else_, outside, arcsRefusal}
-use Rattle.network.specs.declared.Arc.{Arc}
-
--- a record as an arc of the method
-abbrev pub given : Arc → MethodArc
-given a = asArc (a .tail) (a .head) (a .len)
+use Rattle.method.specs.Network.{Arc}
+use Rattle.network.specs.Refusal.{when, _else_, outside, arcsRefusal}
 
 -- "Arc list: 19, 3, 4": what is refused before m arcs
 unfoldable pub sizeRefusal : ℕ → ℕ → ℕ → ℕ
@@ -20,5 +15,5 @@ sizeRefusal n lmax m =
     else when (ltb 240 m) 4
 
 -- "then arcs"
-unfoldable pub listRefusal : ℕ → ℕ → List MethodArc → ℕ
+unfoldable pub listRefusal : ℕ → ℕ → List Arc → ℕ
 listRefusal n lmax ar = sizeRefusal n lmax (length ar) else arcsRefusal n lmax [] ar

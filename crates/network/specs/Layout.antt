@@ -7,6 +7,7 @@ use mathlib.Core.List.{List, [], _∷_}
 use Prim.Native.Nat.{ℕ, zero, suc, _+_, _*_, _<_}
 use lib.ListN.{length, getD}
 use Rattle.method.specs.Network.{Arc, Net, byNumber, IsArc, Accepted}
+use Rattle.network.specs.Checked.{Checked}
 
 abbrev pub lenAt : List ℕ → ℕ → ℕ → ℕ
 lenAt g i h = getD g (3 + (i * 17 + h)) 0
@@ -23,6 +24,10 @@ arcsFrom g a (suc k) = arcAt g a ∷ arcsFrom g (suc a) k
 -- the network that the bytes lay out
 abbrev pub netOf : List ℕ → Net
 netOf g = record { n = getD g 0 0; lmax = getD g 1 0; arcs = arcsFrom g 0 (getD g 2 0); rank = byNumber }
+
+-- what the check found, as our own functions hand it on: the refusal, and the layout
+abbrev pub fromLayout : ℕ → List ℕ → Checked
+fromLayout f g = record { refused = f; meant = netOf g }
 
 -- an accepted network is laid out: what the run asks for
 pub record Laid (g : List ℕ) : Type 0 where

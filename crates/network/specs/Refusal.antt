@@ -1,4 +1,4 @@
--- What a network handed over as bytes and one handed over as an arc list share: the network meant, and the refusals of its arcs.
+-- What a network handed over as bytes and one handed over as an arc list share: the refusals of its arcs.
 -- Assumes nothing.
 use Prim.Native.Nat.{ℕ, zero, suc}
 use mathlib.Core.Bool.{Bool, true, false, _&&_, _||_}

@@ -12,7 +12,7 @@ use lib.ListN.{length, getD, set}
 use Rattle.method.specs.Rules.{Filled, Phase, unstarted, started, stopped}
 use Rattle.method.specs.Entries.{Entry, said}
 use Rattle.method.specs.Marks.{distanceOf, hopOf}
-use Rattle.network.specs.Room.{begins}
+use Rattle.method.specs.Room.{begins}
 use Rattle.cells.specs.Part.{Part, cells, marksAt, marked, nodeOf, siteOf}
 use Rattle.cells.specs.Caches.{Marks}
 use Rattle.entries.specs.Read.{entryOf}

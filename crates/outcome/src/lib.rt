@@ -4,13 +4,16 @@ ghost use mathlib.Core.List.{[], _∷_};
 ghost use Prim.Native.Nat.{_+_, _≤_, _<_};
 ghost use lib.ListN.{length, set};
 ghost use Rattle.method.specs.Network.{IsNode};
-ghost use Rattle.network.specs.Room.{begins};
+ghost use Rattle.method.specs.Room.{begins};
+ghost use Rattle.network.specs.Layout.{Laid, fromLayout};
+ghost use Rattle.network.specs.Checked.{fromBytes};
 ghost use Rattle.cells.specs.Part.{cells, stateSize, stateOf};
 ghost use Rattle.entries.specs.Read.{entryOf};
 ghost use Rattle.calls.specs.Answers.{withRow, withRows};
 ghost use Rattle.calls.specs.Calls.{runRefusal, countsRoom, entriesRoom};
 ghost use Rattle.outcome.specs.Readable.{Readable};
 use entries::*;
+use list::Listed;
 
 // Hands over one entry: its distance, and its hop right behind it.
 pub fn hand_entry(entries: &mut [u16], place: usize, distance: u16, hop: u16)
@@ -62,19 +65,24 @@ fn hand_counts(counts: &mut [u64], taken: u64, idle: u64, unknown: u64, stopped:
     counts[3] = stopped;
 }
 
-// The refusal of a network and its steps, or 0; then both rooms are written, and not before.
-pub fn outcome(net: &[u8], steps: &[u8], counts: &mut [u64; 4], entries: &mut [u16; 512]) -> u32
-    ensures { λ r. ⌜ (r ≡ runRefusal (now (net .entry)) (now (steps .entry)))
-        × (now (counts .exit) ≡ countsRoom (now (net .entry)) (now (steps .entry)) (now (counts .entry)))
-        × (now (entries .exit) ≡ entriesRoom (now (net .entry)) (now (steps .entry)) (now (entries .entry))) ⌝ }
+// The refusal of a network and its steps, or 0; then both rooms are written, and not before. The network is laid out behind its refusal.
+pub fn outcome(
+    refused: u32,
+    laid: &[u8; 772],
+    steps: &[u8],
+    counts: &mut [u64; 4],
+    entries: &mut [u16; 512],
+) -> u32
+    requires { ⌜ (refused ≡ 0 → Laid (now laid)) ⌝ }
+    ensures { λ r. ⌜ (r ≡ runRefusal (fromLayout refused (now (laid .entry))) (now (steps .entry)))
+        × (now (counts .exit) ≡ countsRoom (fromLayout refused (now (laid .entry))) (now (steps .entry)) (now (counts .entry)))
+        × (now (entries .exit) ≡ entriesRoom (fromLayout refused (now (laid .entry))) (now (steps .entry)) (now (entries .entry))) ⌝ }
 {
-    let mut laid = [255u8; 772];
-    let refusal = network::lay(net, &mut laid);
-    if refusal != 0 {
-        return refusal;
+    if refused != 0 {
+        return refused;
     }
     let mut s = [0u16; 6443];
-    let c = run::run(&laid, &mut s, steps);
+    let c = run::run(laid, &mut s, steps);
     let n = laid[cells::NODES] as usize;
     hand_rows(&s, entries, n);
     hand_counts(
@@ -85,4 +93,25 @@ pub fn outcome(net: &[u8], steps: &[u8], counts: &mut [u64; 4], entries: &mut [u
         count_stopped(&s, n) as u64,
     );
     0
+}
+
+// The same of a network's bytes.
+pub fn of_bytes(net: &[u8], steps: &[u8], counts: &mut [u64; 4], entries: &mut [u16; 512]) -> u32
+    ensures { λ r. ⌜ (r ≡ runRefusal (fromBytes (now (net .entry))) (now (steps .entry)))
+        × (now (counts .exit) ≡ countsRoom (fromBytes (now (net .entry))) (now (steps .entry)) (now (counts .entry)))
+        × (now (entries .exit) ≡ entriesRoom (fromBytes (now (net .entry))) (now (steps .entry)) (now (entries .entry))) ⌝ }
+{
+    let mut laid = [255u8; 772];
+    let refused = network::lay(net, &mut laid);
+    outcome(refused, &laid, steps, counts, entries)
+}
+
+// The same of a network that was handed over as an arc list.
+pub fn of_list(l: Listed, steps: &[u8], counts: &mut [u64; 4], entries: &mut [u16; 512]) -> u32
+    requires { ⌜ (l .refused ≡ 0 → Laid (l .laid)) ⌝ }
+    ensures { λ r. ⌜ (r ≡ runRefusal (fromLayout (l .refused) (l .laid)) (now (steps .entry)))
+        × (now (counts .exit) ≡ countsRoom (fromLayout (l .refused) (l .laid)) (now (steps .entry)) (now (counts .entry)))
+        × (now (entries .exit) ≡ entriesRoom (fromLayout (l .refused) (l .laid)) (now (steps .entry)) (now (entries .entry))) ⌝ }
+{
+    outcome(l.refused, &l.laid, steps, counts, entries)
 }

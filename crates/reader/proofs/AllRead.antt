@@ -13,8 +13,8 @@ use Rattle.method.specs.Rules.{Filled}
 use Rattle.method.specs.Entries.{said}
 use Rattle.method.specs.Marks.{distanceOf}
 use Rattle.table.specs.File.{one}
-use Rattle.table.specs.Reader.{taken, recordAt, phaseOf, told, refused, accepted, reading}
-use Rattle.table.specs.Calls.{entriesOutcome, entriesRoom}
+use Rattle.table.specs.Reader.{taken, recordAt, phaseOf, concluded, refused, accepted, reading}
+use Rattle.table.specs.Calls.{entriesOutcome, tableRoom}
 use Rattle.records.specs.Parts.{HasHeader}
 use Rattle.reader.specs.Code.{firstRecords, counted}
 use Rattle.reader.specs.Listing.{Within, allOutcome, allRoom}
@@ -48,7 +48,7 @@ pub record Listable (s : List ℕ) (h : Header) (count : ℕ) (m : Bool) : Type 
   pub within : Within (2 * h .n) (firstRecords (bitsOf s) count)
   pub outcome : (room : List ℕ) (r : Outcome) → r ≡ allOutcome (h .n) room → r ≡ entriesOutcome (reading one s) room
   pub room : (room left : List ℕ) → left ≡ allRoom (h .own) (h .n) (distanceOf (said (phaseOf m) none)) (firstRecords (bitsOf s) count) room
-      → left ≡ entriesRoom (reading one s) room
+      → left ≡ tableRoom (reading one s) room
 
 module _ (s : List ℕ) (h : Header) (d : HasHeader s h) (c : Counted) (ec : c ≡ counted (taken one h (bitsOf s))) where
   abbrev B : List ℕ
@@ -62,7 +62,7 @@ module _ (s : List ℕ) (h : Header) (d : HasHeader s h) (c : Counted) (ec : c �
   count-lists m e =
       let p : Passed h es = taken-passed one h B in
       let first = taken-first h B (omega (arith, length-bits s, header-sound one _ s (d .sound) .0)) .1 in
-      let q : reading one s ≡ accepted h es m = reading-is s h d ∙ ap (told h es) (rw ec at e) ∙ accepts m in
+      let q : reading one s ≡ accepted h es m = reading-is s h d ∙ ap (concluded h es) (rw ec at e) ∙ accepts m in
       rw ec record {
         few = few-records h (d .own) es p;
         stand = omega (arith, first .place, first .stand, length-bits s);
@@ -71,10 +71,10 @@ module _ (s : List ℕ) (h : Header) (d : HasHeader s h) (c : Counted) (ec : c �
         room = λ room left e. rw q ((rw (← first .records) at e) ∙ all-room h (d .own) es p m room);
       }
     where
-      accepts : (b : Bool) → told h es (ending b) ≡ accepted h es b
+      accepts : (b : Bool) → concluded h es (ending b) ≡ accepted h es b
       accepts true = refl
       accepts false = refl
 
   pub count-refuses : (f : ℕ) → c .ending ≡ Faulty f → reading one s ≡ refused f
   unfolding counted
-  count-refuses f e = reading-is s h d ∙ ap (told h es) (rw ec at e)
+  count-refuses f e = reading-is s h d ∙ ap (concluded h es) (rw ec at e)

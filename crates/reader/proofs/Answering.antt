@@ -15,7 +15,7 @@ use Rattle.method.specs.Entries.{known, find, said}
 use Rattle.method.specs.Marks.{distanceOf, noHop}
 use Rattle.method.proofs.Table.{In, Found, find-ok}
 use Rattle.table.specs.File.{one}
-use Rattle.table.specs.Reader.{Taken, taken, phaseOf, told, refusal, says, entryFrom, entryRead}
+use Rattle.table.specs.Reader.{Taken, taken, phaseOf, concluded, refusal, says, entryFrom, entryRead}
 use Rattle.records.specs.Parts.{HasHeader}
 use Rattle.reader.specs.Code.{answer, distanceIn, hopIn, walked, answered}
 use Rattle.table.specs.declared.Answer.the-variants.{Entry, Refused}
@@ -32,7 +32,7 @@ passed-hop : (h : Header) (es : List Filled) → Passed h es → (e : Filled) �
 passed-hop h (x ∷ es) p e (inl q) = rw q (p .0 .sound .hop .0)
 passed-hop h (x ∷ es) p e (inr m) = passed-hop h es (p .1) e m
 
-answered-is : (t : ℕ) (h : Header) (w : Taken) → Passed h (w .records) → answered (h .own) (h .n) t (walked t w) (w .ending) ≡ answer (entryFrom (told h (w .records) (w .ending)) t)
+answered-is : (t : ℕ) (h : Header) (w : Taken) → Passed h (w .records) → answered (h .own) (h .n) t (walked t w) (w .ending) ≡ answer (entryFrom (concluded h (w .records) (w .ending)) t)
 unfolding walked
 answered-is t h w p = by-ending (w .ending)
   where
@@ -51,7 +51,7 @@ answered-is t h w p = by-ending (w .ending)
     by-phase false false false none f = refl
     by-phase b false false (some e) f = rw (ne-eqb (e .hop) 0 (omega (arith, passed-hop h es p e (f .0))))
 
-    by-ending : (e : Ending) → answered (h .own) (h .n) t (walked t w) e ≡ answer (entryFrom (told h es e) t)
+    by-ending : (e : Ending) → answered (h .own) (h .n) t (walked t w) e ≡ answer (entryFrom (concluded h es e) t)
     by-ending Unfinished = by-phase false (eqb t 0 || ltb (h .n) t) (eqb t (h .own)) (find t es) (find-ok t es)
     by-ending Marked = by-phase true (eqb t 0 || ltb (h .n) t) (eqb t (h .own)) (find t es) (find-ok t es)
     by-ending (Faulty r) = refl

@@ -12,7 +12,7 @@ ghost use Rattle.bits.specs.Bits.{bitsOf};
 ghost use Rattle.method.specs.If.{if_then_else_};
 ghost use Rattle.table.specs.File.{one, headerOf};
 ghost use Rattle.table.specs.Reader.{taken, reading, entryRead};
-ghost use Rattle.table.specs.Calls.{entriesOutcome, entriesRoom};
+ghost use Rattle.table.specs.Calls.{entriesOutcome, tableRoom};
 ghost use Rattle.reader.specs.Code.{firstRecords, walked, counted, answeredBy, answer};
 ghost use Rattle.reader.specs.Listing.{withEntry, withAbsent, withRecords, Within, allOutcome, allRoom};
 
@@ -214,7 +214,7 @@ fn put_all(file: &[u8], own: u32, n: u32, count: usize, mark: u16, room: &mut [u
 // All entries of a table file of n nodes, as 2 * n numbers from the room's start on: for each target from 1 to n its distance, or its
 // mark, and its first hop. The rest of the room stays. Refusals 14 to 18, then 13.
 pub fn read_entries(file: &[u8], room: &mut [u16]) -> Outcome
-    ensures { λ r. ⌜ (r ≡ entriesOutcome (reading one (now (file .entry))) (now (room .entry))) × (now (room .exit) ≡ entriesRoom (reading one (now (file .entry))) (now (room .entry))) ⌝ }
+    ensures { λ r. ⌜ (r ≡ entriesOutcome (reading one (now (file .entry))) (now (room .entry))) × (now (room .exit) ≡ tableRoom (reading one (now (file .entry))) (now (room .entry))) ⌝ }
 {
     let fault = records::header_fault(file);
     if fault != 0 {

@@ -13,7 +13,7 @@ use Rattle.bits.specs.Bits.{bitsOf, field}
 use Rattle.bits.proofs.Bytes.{field-below}
 use Rattle.table.specs.File.{Form, one, headerOf}
 use Rattle.table.specs.declared.Header.{Header}
-use Rattle.table.specs.Reader.{headerAt, headerFault, taken, told, refused, readingBy, reading}
+use Rattle.table.specs.Reader.{headerAt, headerFault, taken, concluded, refused, readingBy, reading}
 use Rattle.records.specs.Parts.{HasHeader}
 use Rattle.table.proofs.Passed.{neither}
 
@@ -40,7 +40,7 @@ header-sound f h s e = go (ltb (length s) 2) refl (not (eqb (field (bitsOf s) 0 
 
 -- then the records tell
 pub reading-is : (s : List ℕ) (h : Header) → HasHeader s h
-    → reading one s ≡ told h (taken one h (bitsOf s) .records) (taken one h (bitsOf s) .ending)
+    → reading one s ≡ concluded h (taken one h (bitsOf s) .records) (taken one h (bitsOf s) .ending)
 unfolding reading
 reading-is s h d = rw (d .sound, d .same)
 

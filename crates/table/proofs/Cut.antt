@@ -21,7 +21,7 @@ use Rattle.method.specs.Rules.{Filled}
 use Rattle.method.specs.Entries.{lastDistance}
 use Rattle.table.specs.File.{Form, recordBits, bodyBits, toEdge, endBits, fileBits, fileOf, headerSize, recordSize, start}
 use Rattle.table.specs.declared.Header.{Header}
-use Rattle.table.specs.Reader.{takes, walk, taken, headerAt, headerFault, accepted, told, reading, afterZero}
+use Rattle.table.specs.Reader.{takes, walk, taken, headerAt, headerFault, accepted, concluded, reading, afterZero}
 use Rattle.table.specs.Size.{bytesFor}
 use Rattle.table.specs.Laws.{Fits, whole}
 use Rattle.table.specs.declared.Ending.{Ending}
@@ -168,7 +168,7 @@ module _ (f : Form) (h : Header) (fits : Fits f (h .n) (h .lmax)) where
   module _ (own : IsNode (h .n) (h .own)) where
     -- what the reader says, once the header and the walk are known
     read-as : (s B : List ℕ) (es : List Filled) (e : Ending) → bitsOf s ≡ B → 2 ≤ length s → (field B 0 4 ≡ f .version) × (headerAt f B ≡ h)
-        → walk f h (length B) [] B (headerSize f) ≡ takes es e → reading f s ≡ told h es e
+        → walk f h (length B) [] B (headerSize f) ≡ takes es e → reading f s ≡ concluded h es e
     unfolding reading headerFault taken
     read-as s B es e b l k w =
         rw (
@@ -209,7 +209,7 @@ module _ (f : Form) (h : Header) (fits : Fits f (h .n) (h .lmax)) where
         header : (field F 0 4 ≡ f .version) × (headerAt f F ≡ h)
         header = header-back f h fits own es (endBits mark (length (bodyBits f h es)))
 
-        told-whole : (m : Bool) → told h es (ending m) ≡ accepted h es m
+        told-whole : (m : Bool) → concluded h es (ending m) ≡ accepted h es m
         told-whole true = refl
         told-whole false = refl
 

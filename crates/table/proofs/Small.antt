@@ -17,7 +17,7 @@ use Rattle.method.specs.Marks.{hopOf}
 use Rattle.method.proofs.Table.{In, Found, find-ok}
 use Rattle.table.specs.File.{one}
 use Rattle.table.specs.declared.Header.{Header}
-use Rattle.table.specs.Reader.{headerAt, headerFault, taken, told, Reading, refused, accepted, readingBy, reading, phaseOf, entryIn, Read, refusal, says, entryFrom, entryRead}
+use Rattle.table.specs.Reader.{headerAt, headerFault, taken, concluded, Reading, refused, accepted, readingBy, reading, phaseOf, entryIn, Read, refusal, says, entryFrom, entryRead}
 use Rattle.table.specs.Calls.{entryNumbers, entriesOutcome}
 use Rattle.table.specs.declared.Ending.{Ending}
 use Rattle.table.specs.declared.Ending.the-variants.{Unfinished, Marked, Faulty}
@@ -38,7 +38,7 @@ reading-sound s = go (headerFault one h s)
     h : Header
     h = headerAt one (bitsOf s)
 
-    told-sound : (e : Ending) → Sound (told h (taken one h (bitsOf s) .records) e)
+    told-sound : (e : Ending) → Sound (concluded h (taken one h (bitsOf s) .records) e)
     told-sound Unfinished = (omega (arith, field-below s 8 4), taken-passed one h (bitsOf s))
     told-sound Marked = (omega (arith, field-below s 8 4), taken-passed one h (bitsOf s))
     told-sound (Faulty r) = tt

@@ -2,9 +2,10 @@
 -- Assumes nothing.
 use Prim.Native.Nat.{ℕ, zero, suc}
 use mathlib.Core.List.{List, [], _∷_, _++_}
-use lib.ListN.{length, drop}
+use lib.ListN.{length}
 use lib.Dec.{ltb}
 use Rattle.method.specs.If.{if_then_else_}
+use Rattle.method.specs.Room.{begins}
 use Rattle.method.specs.Entries.{Entry}
 use Rattle.method.specs.Marks.{distanceOf, hopOf}
 use Rattle.table.specs.Reader.{Reading, refused, accepted, entryIn}
@@ -18,7 +19,7 @@ outcome what room = if ltb (length room) (length what) then RefusedRoom 13 else 
 
 -- "A refusal yields its number only and writes nothing." "Bytes of the room beyond the file stay."
 abbrev pub roomAfter : List ℕ → List ℕ → List ℕ
-roomAfter what room = if ltb (length room) (length what) then room else what ++ drop (length what) room
+roomAfter what room = if ltb (length room) (length what) then room else begins what room
 
 -- the entries for 1 to k, each as its distance, or its mark, and its first hop
 abbrev pub entryNumbers : (ℕ → Entry) → ℕ → List ℕ
@@ -31,6 +32,6 @@ entriesOutcome (refused r) room = RefusedRoom r
 entriesOutcome (accepted h es mark) room = outcome (entryNumbers (entryIn h es mark) (h .n)) room
 
 -- and what they leave in the room
-abbrev pub entriesRoom : Reading → List ℕ → List ℕ
-entriesRoom (refused r) room = room
-entriesRoom (accepted h es mark) room = roomAfter (entryNumbers (entryIn h es mark) (h .n)) room
+abbrev pub tableRoom : Reading → List ℕ → List ℕ
+tableRoom (refused r) room = room
+tableRoom (accepted h es mark) room = roomAfter (entryNumbers (entryIn h es mark) (h .n)) room

@@ -87,14 +87,14 @@ pub data Reading : Type 0 where
   accepted : Header → List Filled → Bool → Reading
 
 -- what the ending makes of the records
-abbrev pub told : Header → List Filled → Ending → Reading
-told h es Unfinished = accepted h es false
-told h es Marked = accepted h es true
-told h es (Faulty r) = refused r
+abbrev pub concluded : Header → List Filled → Ending → Reading
+concluded h es Unfinished = accepted h es false
+concluded h es Marked = accepted h es true
+concluded h es (Faulty r) = refused r
 
 -- by the fault of the header, 0 for none
 abbrev pub readingBy : Form → Header → List ℕ → ℕ → Reading
-readingBy f h B zero = told h (taken f h B .records) (taken f h B .ending)
+readingBy f h B zero = concluded h (taken f h B .records) (taken f h B .ending)
 readingBy f h B (suc r) = refused (suc r)
 
 -- "File: 14, 15, 16, records in order 17, then 18"

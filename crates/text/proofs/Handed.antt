@@ -9,9 +9,9 @@ use Rattle.method.specs.Network.{IsNode}
 use Rattle.method.specs.Entries.{Entry, unknown, unreachable, known}
 use Rattle.method.specs.Marks.{unknownMark, unreachableMark, distanceOf, hopOf}
 use Rattle.text.specs.Lines.{countsLine, entryLine, rising, nodeLines, houseText}
-use Rattle.text.specs.Handed.{entryOf}
+use Rattle.text.specs.Handed.{entryBy}
 
-pub handed : (e : Entry) → ((d h : ℕ) → e ≡ known d h → d < unreachableMark) → entryOf (distanceOf e) (hopOf e) ≡ e
+pub handed : (e : Entry) → ((d h : ℕ) → e ≡ known d h → d < unreachableMark) → entryBy (distanceOf e) (hopOf e) ≡ e
 handed unknown l = refl
 handed unreachable l = refl
 handed (known d h) l =

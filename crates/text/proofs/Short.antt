@@ -10,7 +10,7 @@ use Rattle.method.specs.Entries.{unknown, unreachable, known}
 use Rattle.method.specs.Marks.{unknownMark, unreachableMark}
 use Rattle.text.specs.Decimal.{decimal}
 use Rattle.text.specs.Lines.{countsLine, distanceHop, entryLine, nodeLines, rising, houseText, refusedLine}
-use Rattle.text.specs.Handed.{entryOf, place, entryAt}
+use Rattle.text.specs.Handed.{entryBy, place, entryAt}
 use Rattle.text.specs.Room.{longest, longestRefused}
 use Rattle.text.proofs.Decimal.{decimal-short}
 use Rattle.text.proofs.Rising.{rising-short}
@@ -25,7 +25,7 @@ digits-16 x h = decimal-short 4 x (omega arith)
 counts-short : (A I U S : ℕ) → A < 2 ^ 64 → I < 2 ^ 64 → U < 2 ^ 64 → S < 2 ^ 64 → length (countsLine A I U S) ≤ 31 + 4 * 20
 counts-short A I U S a i u s = simp length-append (omega (arith, digits-64 A a, digits-64 I i, digits-64 U u, digits-64 S s))
 
-distance-hop-short : (d h : ℕ) → d < 2 ^ 16 → h < 2 ^ 16 → length (distanceHop (entryOf d h)) ≤ 11
+distance-hop-short : (d h : ℕ) → d < 2 ^ 16 → h < 2 ^ 16 → length (distanceHop (entryBy d h)) ≤ 11
 distance-hop-short d h p q = go (eqb d unknownMark) (eqb d unreachableMark)
   where
     go : (b c : Bool) → length (distanceHop (cond b unknown (cond c unreachable (known d h)))) ≤ 11

@@ -9,8 +9,8 @@ use Rattle.method.specs.Entries.{Entry, unknown, unreachable, known}
 use Rattle.method.specs.Marks.{unknownMark, unreachableMark}
 
 -- the entry that a distance, or a mark in its place, and a first hop are
-abbrev pub entryOf : ℕ → ℕ → Entry
-entryOf d h = if eqb d unknownMark then unknown else (if eqb d unreachableMark then unreachable else known d h)
+abbrev pub entryBy : ℕ → ℕ → Entry
+entryBy d h = if eqb d unknownMark then unknown else (if eqb d unreachableMark then unreachable else known d h)
 
 -- where the distance of node i's entry for k stands; its hop is right behind it
 abbrev pub place : ℕ → ℕ → ℕ
@@ -18,4 +18,4 @@ place i k = 2 * (16 * (i - 1) + (k - 1))
 
 -- node i's entry for k
 abbrev pub entryAt : List ℕ → ℕ → ℕ → Entry
-entryAt entries i k = entryOf (getD entries (place i k) 0) (getD entries (place i k + 1) 0)
+entryAt entries i k = entryBy (getD entries (place i k) 0) (getD entries (place i k + 1) 0)

@@ -9,7 +9,7 @@ use Rattle.method.specs.Entries.{Entry, known}
 use Rattle.method.specs.Marks.{unreachableMark, distanceOf, hopOf}
 use Rattle.text.specs.Decimal.{digit, decimal}
 use Rattle.text.specs.Lines.{houseText, refusedLine}
-use Rattle.text.specs.Handed.{entryOf, entryAt}
+use Rattle.text.specs.Handed.{entryBy, entryAt}
 use Rattle.text.specs.Room.{Front, longest, longestRefused}
 
 pub record TextLaws : Type 0 where
@@ -17,7 +17,7 @@ pub record TextLaws : Type 0 where
   pub one-digit : (x : ℕ) → x < 10 → decimal x ≡ digit x
   pub more-digits : (x : ℕ) → 10 ≤ x → decimal x ≡ decimal (x / 10) ++ digit (x % 10)
   -- An entry that is handed over as two numbers is that entry again, where a known distance is no mark.
-  pub handed : (e : Entry) → ((d h : ℕ) → e ≡ known d h → d < unreachableMark) → entryOf (distanceOf e) (hopOf e) ≡ e
+  pub handed : (e : Entry) → ((d h : ℕ) → e ≡ known d h → d < unreachableMark) → entryBy (distanceOf e) (hopOf e) ≡ e
   -- The text speaks of the nodes 1 to n only.
   pub same-text : (A I U S n : ℕ) (f g : ℕ → ℕ → Entry) → ((i k : ℕ) → IsNode n i → IsNode n k → f i k ≡ g i k)
       → houseText A I U S n f ≡ houseText A I U S n g

@@ -1,13 +1,14 @@
 -- What a call leaves of the room that it is lent, and how large the room must be.
 -- Assumes nothing.
 use mathlib.Core.Path.{_≡_}
-use mathlib.Core.List.{List, _++_}
+use mathlib.Core.List.{List}
 use Prim.Native.Nat.{ℕ, _+_, _*_}
-use lib.ListN.{length, drop}
+use lib.ListN.{length}
+use Rattle.method.specs.Room.{begins}
 
 -- the text stands at the beginning, the bytes beyond it stay, and the answer is its length
 pub record Front (room text after : List ℕ) (answer : ℕ) : Type 0 where
-  pub holds : after ≡ text ++ drop (length text) room
+  pub holds : after ≡ begins text room
   pub whole : answer ≡ length text
 
 -- the longest text of a house, 4719 bytes: four counts of 20 digits with their words, and 16 times 16 lines of 18 bytes

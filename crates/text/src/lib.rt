@@ -7,7 +7,7 @@ ghost use lib.ListN.{length};
 ghost use Rattle.method.specs.Network.{IsNode};
 ghost use Rattle.text.specs.Decimal.{decimal};
 ghost use Rattle.text.specs.Lines.{countsLine, distanceHop, entryLine, rising, nodeLines, houseText, refusedLine};
-ghost use Rattle.text.specs.Handed.{entryOf, entryAt};
+ghost use Rattle.text.specs.Handed.{entryBy, entryAt};
 ghost use Rattle.text.specs.Room.{Front, longest, longestRefused};
 ghost use Rattle.text.specs.Writing.{HasRoom, Written};
 use method::Distance;
@@ -68,8 +68,8 @@ fn counts(room: &mut [u8], at: usize, taken: u64, idle: u64, unknown: u64, stopp
 
 // An entry's distance and first hop, or what stands for its mark.
 fn distance_hop(room: &mut [u8], at: usize, d: u16, h: u16) -> usize
-    requires { ⌜ HasRoom (now room) at (distanceHop (entryOf d h)) ⌝ }
-    ensures { λ r. ⌜ Written (now (room .entry)) at (distanceHop (entryOf d h)) (now (room .exit)) r ⌝ }
+    requires { ⌜ HasRoom (now room) at (distanceHop (entryBy d h)) ⌝ }
+    ensures { λ r. ⌜ Written (now (room .entry)) at (distanceHop (entryBy d h)) (now (room .exit)) r ⌝ }
 {
     let distance = Distance(d);
     if distance.is_unknown() {
@@ -84,8 +84,8 @@ fn distance_hop(room: &mut [u8], at: usize, d: u16, h: u16) -> usize
 
 // The line of an entry.
 fn entry_line(room: &mut [u8], at: usize, node: usize, target: usize, d: u16, h: u16) -> usize
-    requires { ⌜ HasRoom (now room) at (entryLine node target (entryOf d h)) ⌝ }
-    ensures { λ r. ⌜ Written (now (room .entry)) at (entryLine node target (entryOf d h)) (now (room .exit)) r ⌝ }
+    requires { ⌜ HasRoom (now room) at (entryLine node target (entryBy d h)) ⌝ }
+    ensures { λ r. ⌜ Written (now (room .entry)) at (entryLine node target (entryBy d h)) (now (room .exit)) r ⌝ }
 {
     let at = number(room, at, node as u64);
     let at = numbered(room, at, b" ", target as u64);

@@ -18,13 +18,12 @@ use Rattle.method.specs.Network.{Arc, Net, IsNode, IsArc, Valid, Accepted}
 use Rattle.method.specs.Rules.{Phase, unstarted, started, stopped}
 use Rattle.method.specs.Work.{Site, became, work, begun}
 use Rattle.method.specs.Steps.{State, sents, Step, start, deliver, byteStep, steps, Named, node, arc, nothing, arcNamed, names, taken, starting, carriedOut, step, runFrom, run}
+use Rattle.method.specs.Entries.{hasStopped}
 use Rattle.method.proofs.Turns.{stage}
 use Rattle.method.proofs.Working.{work-ok}
 use Rattle.method.proofs.Runs.{Inv, Onward, begun-site, true-lists, step-ok, run-ok, run-append}
 use Rattle.method.proofs.Proved.{laws}
-use Rattle.network.specs.Bytes.{network, refusal}
-use Rattle.network.proofs.Laws.{checks}
-use Rattle.method.specs.Entries.{hasStopped}
+use Rattle.network.specs.Checked.{Checked}
 use Rattle.entries.specs.Read.{isStopped, stoppedTo}
 use Rattle.calls.specs.Calls.{nodesOf, stateAfter, stoppedOf}
 
@@ -159,58 +158,55 @@ module _ (net : Net) (va : Valid net) (st : State) (inv : Inv net st) where
           omega (arith, stages-le st st′ on (net .n), handed-lt st st′ on (net .arcs) i j (a .0) (a .1) (omega arith))
       go nothing e u = let k = laws net .g-unknown st b .1 e in let z : _≡_ {A = ℕ} 0 1 = cc in absurd (omega arith)
 
-module _ (net : List ℕ) (e : refusal net ≡ 0) where
-  accepted : Accepted (network net)
-  accepted = checks .bytes-accepted net e
-
+module _ (net : Checked) (accepted : Accepted (net .meant)) where
   -- no run comes farther: two stages a node, and an arc hands over at most what its head sends (law j)
   abbrev most : ℕ
-  most = nodesOf net + nodesOf net + length (network net .arcs) * (nodesOf net * network net .lmax + nodesOf net + 1)
+  most = nodesOf net + nodesOf net + length (net .meant .arcs) * (nodesOf net * net .meant .lmax + nodesOf net + 1)
 
-  far-few : (bs : List ℕ) → far (network net) (stateAfter net bs) ≤ most
+  far-few : (bs : List ℕ) → far (net .meant) (stateAfter net bs) ≤ most
   far-few bs =
       omega (
         arith,
         stages-few (stateAfter net bs) (nodesOf net),
-        handed-few (stateAfter net bs) (nodesOf net * network net .lmax + nodesOf net + 1) (network net .arcs) each,
+        handed-few (stateAfter net bs) (nodesOf net * net .meant .lmax + nodesOf net + 1) (net .meant .arcs) each,
       )
     where
-      each : (i j l : ℕ) → IsArc (network net .arcs) i j l → stateAfter net bs i .delivered j ≤ nodesOf net * network net .lmax + nodesOf net + 1
+      each : (i j l : ℕ) → IsArc (net .meant .arcs) i j l → stateAfter net bs i .delivered j ≤ nodesOf net * net .meant .lmax + nodesOf net + 1
       each i j l a =
           omega (
             arith,
-            laws (network net) .k-delivered (accepted .valid) (steps bs) i j,
-            laws (network net) .j-sent (accepted .valid) (steps bs) j (accepted .valid .heads i j l a),
+            laws (net .meant) .k-delivered (accepted .valid) (steps bs) i j,
+            laws (net .meant) .j-sent (accepted .valid) (steps bs) j (accepted .valid .heads i j l a),
           )
 
   -- one step byte more
-  one-more : (bs : List ℕ) (b : ℕ) → stateAfter net (bs ++ (b ∷ [])) ≡ step (network net) (stateAfter net bs) (byteStep b) .state
+  one-more : (bs : List ℕ) (b : ℕ) → stateAfter net (bs ++ (b ∷ [])) ≡ step (net .meant) (stateAfter net bs) (byteStep b) .state
   unfolding runFrom
   one-more bs b =
-      ap (run (network net)) (map-append byteStep bs (b ∷ []))
-      ∙ run-append (network net) (accepted .valid) (steps bs) (byteStep b ∷ [])
+      ap (run (net .meant)) (map-append byteStep bs (b ∷ []))
+      ∙ run-append (net .meant) (accepted .valid) (steps bs) (byteStep b ∷ [])
 
   -- step bytes after which all nodes have stopped
   abbrev Ends : List ℕ → Type 0
   Ends bs = (cs : List ℕ) × Bytes cs × (stoppedOf net (bs ++ cs) ≡ nodesOf net)
 
   -- while a node has not stopped, the step that can be taken
-  further : (k : ℕ) (bs : List ℕ) → most < far (network net) (stateAfter net bs) + k → Ends bs
+  further : (k : ℕ) (bs : List ℕ) → most < far (net .meant) (stateAfter net bs) + k → Ends bs
   further zero bs lt = absurd (omega (arith, far-few bs))
   further (suc k) bs lt = go (all-or-one (stateAfter net bs) (nodesOf net)) (further k)
     where
       go : (stoppedTo (stateAfter net bs) (nodesOf net) ≡ nodesOf net) ⊎ Working (stateAfter net bs) (nodesOf net)
-          → ((bs : List ℕ) → most < far (network net) (stateAfter net bs) + k → Ends bs)
+          → ((bs : List ℕ) → most < far (net .meant) (stateAfter net bs) + k → Ends bs)
           → Ends bs
       go (inl all) rec = ([], record { each = λ i. omega arith }, ap (stoppedOf net) (append-nil bs) ∙ all)
       go (inr j) rec =
-          let s = laws (network net) .e-some-step (accepted .sizes) (accepted .valid) (accepted .positive) (steps bs) (j .0) (j .1)
+          let s = laws (net .meant) .e-some-step (accepted .sizes) (accepted .valid) (accepted .positive) (steps bs) (j .0) (j .1)
           (λ st. true≢false (sym (ap hasStopped st) ∙ j .2)) in
-          let up = rises (network net) (accepted .valid) (stateAfter net bs) (run-ok (network net) (accepted .valid) (steps bs)) (byteStep (s .0)) (s .2) in
-          let at = ap (far (network net)) (one-more bs (s .0)) in
+          let up = rises (net .meant) (accepted .valid) (stateAfter net bs) (run-ok (net .meant) (accepted .valid) (steps bs)) (byteStep (s .0)) (s .2) in
+          let at = ap (far (net .meant)) (one-more bs (s .0)) in
           let r = rec (bs ++ (s .0 ∷ [])) (omega arith) in
           (s .0 ∷ r .0, below-append (below-replicate 1 (omega (arith, s .1))) (r .1), ap (stoppedOf net) (sym (append-snoc bs (s .0) (r .0))) ∙ r .2)
 
 -- from any steps on, some further step bytes bring all nodes to a stop
-pub ends : (net bs : List ℕ) → refusal net ≡ 0 → (cs : List ℕ) × Bytes cs × (stoppedOf net (bs ++ cs) ≡ nodesOf net)
-ends net bs e = further net e (suc (most net e)) bs (omega arith)
+pub ends : (net : Checked) → Accepted (net .meant) → (bs : List ℕ) → (cs : List ℕ) × Bytes cs × (stoppedOf net (bs ++ cs) ≡ nodesOf net)
+ends net accepted bs = further net accepted (suc (most net accepted)) bs (omega arith)

@@ -11,8 +11,8 @@ use Rattle.method.specs.Rules.{Filled, Phase}
 use Rattle.method.specs.Steps.{steps}
 use Rattle.method.specs.Entries.{find, said, phase, table, entry, others}
 use Rattle.network.specs.Refusal.{when, _else_}
-use Rattle.network.specs.Room.{keptIf, begins}
-use Rattle.network.specs.Bytes.{network, refusal}
+use Rattle.method.specs.Room.{keptIf, begins}
+use Rattle.network.specs.Checked.{Checked, OfMethod}
 use Rattle.network.proofs.Refused.{not-outside}
 use Rattle.method.specs.Entries.{hasStopped}
 use Rattle.table.specs.File.{one, fileOf}
@@ -21,17 +21,17 @@ use Rattle.calls.proofs.Ten.{never-ten}
 use Rattle.calls.specs.Answers.{values, entryValues}
 use Rattle.calls.specs.Calls.{nodesOf, isUnstarted, entryAnswer, writeAnswer, writeRoom}
 use Rattle.file.specs.Filing.{lateAnswer, lateRoom}
-use Rattle.file.proofs.Refused.{only-late}
 
--- at node i of n, which the bytes net mean, the steps bs leave a phase and filled entries, newest first
-pub record Leaves (net : List ℕ) (n : Net) (bs : List ℕ) (i : ℕ) (ph : Phase) (es : List Filled) : Type 0 where
-  pub taken : refusal net ≡ 0
-  pub means : network net ≡ n
+-- at node i of n, the network meant, the steps bs leave a phase and filled entries, newest first
+pub record Leaves (net : Checked) (n : Net) (bs : List ℕ) (i : ℕ) (ph : Phase) (es : List Filled) : Type 0 where
+  pub taken : net .refused ≡ 0
+  pub sound : OfMethod net
+  pub means : net .meant ≡ n
   pub node : IsNode (n .n) i
   pub phase-is : phase n (steps bs) i ≡ ph
   pub table-is : table n (steps bs) i ≡ es
 
-module _ (net : List ℕ) (n : Net) (bs : List ℕ) (i : ℕ) (ph : Phase) (es : List Filled) (left : Leaves net n bs i ph es) where
+module _ (net : Checked) (n : Net) (bs : List ℕ) (i : ℕ) (ph : Phase) (es : List Filled) (left : Leaves net n bs i ph es) where
   size : nodesOf net ≡ n .n
   size = ap (λ (n : Net). n .n) (left .means)
 
@@ -39,7 +39,7 @@ module _ (net : List ℕ) (n : Net) (bs : List ℕ) (i : ℕ) (ph : Phase) (es :
   entry-by y to =
       let a = not-outside (nodesOf net) i (left .node .0) (omega (arith, size, left .node .1)) in
       let b = not-outside (nodesOf net) y (to .0) (omega (arith, size, to .1)) in
-      rw (left .taken, a, b, never-ten net bs (left .taken))
+      rw (left .taken, a, b, never-ten net bs (left .sound) (left .taken))
       (ap (λ (n : Net). entryValues (entry n (steps bs) i y)) (left .means) ∙ ap₂ (λ (p : Phase) (t : List Filled). entryValues (said p (find y t))) (left .phase-is) (left .table-is))
 
   -- the file of what was left, what is refused of it, and the answer and the room behind that
@@ -57,7 +57,8 @@ module _ (net : List ℕ) (n : Net) (bs : List ℕ) (i : ℕ) (ph : Phase) (es :
 
   pub write-by : (room : List ℕ) → (writeAnswer net bs i room ≡ answerIn room) × (writeRoom net bs i room ≡ roomIn room)
   write-by room =
-      let late = only-late net bs i room (left .taken) (omega (arith, size, left .node)) in (
-        late .0 ∙ ap (λ (n : Net). lateAnswer n (steps bs) i room) (left .means) ∙ rw (left .phase-is, left .table-is),
-        late .1 ∙ ap (λ (n : Net). lateRoom n (steps bs) i room) (left .means) ∙ rw (left .phase-is, left .table-is),
+      let a = not-outside (nodesOf net) i (left .node .0) (omega (arith, size, left .node .1)) in
+      let ten = never-ten net bs (left .sound) (left .taken) in (
+        rw (left .taken, a, ten) (ap (λ (n : Net). lateAnswer n (steps bs) i room) (left .means) ∙ rw (left .phase-is, left .table-is)),
+        rw (left .taken, a, ten) (ap (λ (n : Net). lateRoom n (steps bs) i room) (left .means) ∙ rw (left .phase-is, left .table-is)),
       )

@@ -12,22 +12,23 @@ use lib.Seq.{take-at}
 use lib.Dec.{ltb, eqb}
 use borrow.Author.Tests.{ltb-true, eqb-true, eqb-false}
 use Rattle.method.specs.If.{if_then_else_}
-use Rattle.method.specs.Network.{Arc, house, IsNode}
+use Rattle.method.specs.Network.{Arc, Net, house, IsNode}
 use Rattle.method.specs.Rules.{Filled, Phase, unstarted, started, stopped}
 use Rattle.method.specs.Steps.{State, Step, steps, byteStep, counts, counted}
-use Rattle.method.specs.Entries.{Entry, unknown, unreachable, known, find, said, phase, table, Stopped}
+use Rattle.method.specs.Entries.{Entry, unknown, entry, unreachable, known, find, said, phase, table, Stopped, hasStopped}
+use Rattle.method.specs.Laws.{Leads, arrived, hop}
 use Rattle.method.proofs.Proved.{laws as method-laws}
 use Rattle.method.proofs.Said.{unreachable-no-chain}
 use Rattle.bits.proofs.Bytes.{length-packed}
 use Rattle.network.specs.Refusal.{when, _else_, outside}
 use Rattle.network.specs.Bytes.{network, refusal, size, netBits, bytesOf}
 use Rattle.network.specs.ArcList.{listRefusal}
-use Rattle.network.specs.Pack.{packRoom}
+use Rattle.network.specs.Checked.{Checked, fromBytes, fromList, OfMethod}
+use Rattle.pack.specs.Pack.{packRoom}
 use Rattle.network.proofs.Refused.{inside}
-use Rattle.network.specs.Room.{keptIf, begins}
+use Rattle.method.specs.Room.{keptIf, begins}
 use Rattle.network.proofs.Laws.{checks}
 use Rattle.entries.proofs.Reading.{stopped-le}
-use Rattle.method.specs.Entries.{hasStopped}
 use Rattle.entries.specs.Read.{isStopped, stoppedTo}
 use Rattle.table.specs.File.{one}
 use Rattle.table.specs.Reader.{entryRead}
@@ -37,23 +38,11 @@ use Rattle.route.specs.Laws.{Over, lastOf}
 use Rattle.route.proofs.Laws.{laws as route-laws}
 use Rattle.calls.proofs.Ten.{never-ten}
 use Rattle.calls.specs.Answers.{readAnswer}
-use Rattle.calls.specs.Calls.{nodesOf, stateAfter, entryAfter, countsOf, stoppedOf, tenRefusal, runRefusal, entryRefusal, entryAnswer, passed, nodesPassed, isUnstarted, fileAfter, writeRefusal, writeRoom}
-use Rattle.zaqfinell.specs.Requirement2.{IsSo, Requirement2}
-use Rattle.zaqfinell.proofs.Small.{small-network}
+use Rattle.calls.specs.Calls.{nodesOf, stateAfter, entryAfter, countsOf, stoppedOf, tenRefusal, runRefusal, entryRefusal, entryAnswer, passed, nodesPassed, routeRoom, isUnstarted, fileAfter, writeRefusal, writeRoom}
+use Rattle.zaqfinell.specs.Requirement2.{IsSo, Way, RightTables, Requirement2}
+use Rattle.zaqfinell.proofs.Small.{early-bytes, early-list}
 use Rattle.zaqfinell.proofs.Ending.{all-or-one, ends}
 use Rattle.zaqfinell.proofs.Asked.{Asked, asked, answered, run-accepted, wrote, beside}
-
--- what an entry says is so
-right : (net bs : List ℕ) (i y : ℕ) → entryRefusal net bs i y ≡ 0 → IsSo (network net) i y (entryAfter net bs i y)
-right net bs i y e = go (entryAfter net bs i y) refl
-  where
-    a : Asked net i y
-    a = asked net bs i y e
-
-    go : (x : Entry) → entryAfter net bs i y ≡ x → IsSo (network net) i y x
-    go unknown is = tt
-    go unreachable is = unreachable-no-chain (network net) (a .accepted .valid) (steps bs) i y is .1
-    go (known d h) is = method-laws (network net) .a-filled-is-right (a .accepted .valid) (steps bs) i y d h is
 
 -- a node that counts as stopped has stopped
 at-end : (ph : Phase) → hasStopped ph ≡ true → ph ≡ stopped
@@ -81,86 +70,148 @@ all-stopped st (suc k) e j at = go (isStopped (st (suc k))) refl (eqb j (suc k))
 one-working : (st : State) (k : ℕ) → stoppedTo st k < k → (j : ℕ) × IsNode k j × (isStopped (st j) ≡ false)
 one-working st k lt = ⊎-elim (λ e. absurd (omega arith)) (λ w. w) (all-or-one st k)
 
--- an entry of a node that has stopped is not unknown
-not-unknown : (net bs : List ℕ) (i y : ℕ) → Stopped (network net) (steps bs) i → entryAfter net bs i y ≢ unknown
-not-unknown net bs i y stop is = go found (sym (ap (λ (ph : Phase). said ph found) stop) ∙ is)
-  where
-    found : Option Filled
-    found = find y (table (network net) (steps bs) i)
+-- an entry that leads on is known
+abbrev Known : Net → List Step → ℕ → ℕ → Type 0
+Known net bs i y = (d : ℕ) × (h : ℕ) × (entry net bs i y ≡ known d h)
 
-    go : (o : Option Filled) → said stopped o ≡ unknown → ⊥
-    go none z = let w : _≡_ {A = ℕ} 0 1 = cc in omega arith
-    go (some f) z = let w : _≡_ {A = ℕ} 0 1 = cc in omega arith
+leads-known : (net : Net) (bs : List Step) (y i d : ℕ) → Leads net bs y i d → Known net bs i y
+leads-known net bs y i d (arrived at e z) = (d, 0, e)
+leads-known net bs y i d (hop h l r e arc sum lt onward) = (d, h, e)
 
-filled : (net bs : List ℕ) → stoppedOf net bs ≡ nodesOf net → (i y : ℕ) → entryRefusal net bs i y ≡ 0 → Stopped (network net) (steps bs) i × (entryAfter net bs i y ≢ unknown)
-filled net bs all i y e =
-    let stop = at-end _ (all-stopped (stateAfter net bs) (nodesOf net) all i (asked net bs i y e .node)) in
-    (stop, not-unknown net bs i y stop)
+-- so is that of the first hop
+hop-known : (net : Net) (bs : List Step) (i y d h : ℕ) → i ≢ y → entry net bs i y ≡ known d h → Leads net bs y i d → Known net bs h y
+hop-known net bs i y d h ne is (arrived at e z) = absurd (ne at)
+hop-known net bs i y d h ne is (hop g l r e arc sum lt onward) =
+    let same : g ≡ h = cc in
+    subst (λ (x : ℕ). Known net bs x y) same (leads-known net bs y g r onward)
 
--- one step more
-progress : (net bs : List ℕ) → runRefusal net bs ≡ 0 → stoppedOf net bs < nodesOf net
-    → (b : ℕ) × (b ≤ 255) × (countsOf net (bs ++ (b ∷ [])) .taken ≡ suc (countsOf net bs .taken))
-progress net bs e lt =
-    let a = run-accepted net bs e in
-    let j = one-working (stateAfter net bs) (nodesOf net) lt in
-    let s = method-laws (network net) .e-some-step (a .sizes) (a .valid) (a .positive) (steps bs) (j .0) (j .1) (λ st. true≢false (sym (ap hasStopped st) ∙ j .2)) in (
-      s .0,
-      s .1,
-      ap (λ (l : List Step). counts (network net) l .taken) (map-append byteStep bs (s .0 ∷ []))
-          ∙ ap (λ c. c .taken) (method-laws (network net) .g-each (steps bs) (byteStep (s .0)))
-          ∙ ap (λ k. counted k (countsOf net bs) .taken) (s .2),
-    )
+-- of a network that is handed over, whose check sees to it that it is one of the method
+module _ (net : Checked) (sound : OfMethod net) (not-13 : net .refused ≢ 13) where
+  -- what an entry says is so
+  right : (bs : List ℕ) (i y : ℕ) → entryRefusal net bs i y ≡ 0 → IsSo (net .meant) i y (entryAfter net bs i y)
+  right bs i y e = go (entryAfter net bs i y) refl
+    where
+      a : Asked net i y
+      a = asked net sound bs i y e
 
--- the route
-way : (net bs : List ℕ) (i y d h : ℕ) → entryRefusal net bs i y ≡ 0 → entryAfter net bs i y ≡ known d h
-    → Over (network net .arcs) i (nodesPassed net bs i y) d × (lastOf i (nodesPassed net bs i y) ≡ y)
-way net bs i y d h e is =
-    let a = asked net bs i y e in
-    let r = route-laws (network net) .arrives (a .accepted) (steps bs) i y d h (a .node) is in
-    subst (λ (x : Entry). Over (network net .arcs) i (passed x (route (stateAfter net bs) y i)) d × (lastOf i (passed x (route (stateAfter net bs) y i)) ≡ y)) (sym is) (r .over-arcs, r .ends)
+      go : (x : Entry) → entryAfter net bs i y ≡ x → IsSo (net .meant) i y x
+      go unknown is = tt
+      go unreachable is = unreachable-no-chain (net .meant) (a .accepted .valid) (steps bs) i y is .1
+      go (known d h) is = method-laws (net .meant) .a-filled-is-right (a .accepted .valid) (steps bs) i y d h is
 
--- the file in the room
-written : (net bs : List ℕ) (i : ℕ) (room : List ℕ) → writeRefusal net bs i (length room) ≡ 0
-    → take (length (fileAfter net bs i)) (writeRoom net bs i room) ≡ fileAfter net bs i
-written net bs i room e =
-    ap (λ (r : ℕ). take (length (fileAfter net bs i)) (keptIf r room (begins (fileAfter net bs i) room))) e
-    ∙ take-at (fileAfter net bs i) (drop (length (fileAfter net bs i)) room) (length (fileAfter net bs i)) refl
+  -- an entry of a node that has stopped is not unknown
+  not-unknown : (bs : List ℕ) (i y : ℕ) → Stopped (net .meant) (steps bs) i → entryAfter net bs i y ≢ unknown
+  not-unknown bs i y stop is = go found (sym (ap (λ (ph : Phase). said ph found) stop) ∙ is)
+    where
+      found : Option Filled
+      found = find y (table (net .meant) (steps bs) i)
 
--- 27 bytes are enough
-fits : (net bs : List ℕ) (i : ℕ) → writeRefusal net bs i 27 ≢ 13
-fits net bs i = by-net (refusal net) refl
-  where
-    long : ℕ
-    long = length (fileAfter net bs i)
+      go : (o : Option Filled) → said stopped o ≡ unknown → ⊥
+      go none z = let w : _≡_ {A = ℕ} 0 1 = cc in omega arith
+      go (some f) z = let w : _≡_ {A = ℕ} 0 1 = cc in omega arith
 
-    by-room : refusal net ≡ 0 → outside (nodesOf net) i ≡ false → (u : Bool) → isUnstarted (phase (network net) (steps bs) i) ≡ u
-        → (t : Bool) → ltb 27 long ≡ t → when u 12 else when t 13 ≢ 13
-    by-room z out true un t ef e = omega arith
-    by-room z out false un false ef e = omega arith
-    by-room z out false un true ef e =
-        let a = checks .bytes-accepted net z in
-        let up : phase (network net) (steps bs) i ≢ unstarted = λ q. true≢false (sym (ap isUnstarted q) ∙ un) in
-        omega (arith, ltb-true 27 long ef, at-most-27 (network net) a (steps bs) i (inside (nodesOf net) i out, up))
+  filled : (bs : List ℕ) → stoppedOf net bs ≡ nodesOf net → (i y : ℕ) → entryRefusal net bs i y ≡ 0 → Stopped (net .meant) (steps bs) i × (entryAfter net bs i y ≢ unknown)
+  filled bs all i y e =
+      let stop = at-end _ (all-stopped (stateAfter net bs) (nodesOf net) all i (asked net sound bs i y e .node)) in
+      (stop, not-unknown bs i y stop)
 
-    by-node : refusal net ≡ 0 → (o : Bool) → outside (nodesOf net) i ≡ o
-        → when o 11 else tenRefusal net bs else when (isUnstarted (phase (network net) (steps bs) i)) 12 else when (ltb 27 long) 13 ≢ 13
-    by-node z true out e = omega arith
-    by-node z false out e =
-        by-room z out (isUnstarted (phase (network net) (steps bs) i)) refl (ltb 27 long) refl
-        (sym (ap (λ (r : ℕ). r else when (isUnstarted (phase (network net) (steps bs) i)) 12 else when (ltb 27 long) 13) (never-ten net bs z)) ∙ e)
+  -- one step more
+  progress : (bs : List ℕ) → runRefusal net bs ≡ 0 → stoppedOf net bs < nodesOf net
+      → (b : ℕ) × (b ≤ 255) × (countsOf net (bs ++ (b ∷ [])) .taken ≡ suc (countsOf net bs .taken))
+  progress bs e lt =
+      let a = run-accepted net sound bs e in
+      let j = one-working (stateAfter net bs) (nodesOf net) lt in
+      let s = method-laws (net .meant) .e-some-step (a .sizes) (a .valid) (a .positive) (steps bs) (j .0) (j .1) (λ st. true≢false (sym (ap hasStopped st) ∙ j .2)) in (
+        s .0,
+        s .1,
+        ap (λ (l : List Step). counts (net .meant) l .taken) (map-append byteStep bs (s .0 ∷ []))
+            ∙ ap (λ c. c .taken) (method-laws (net .meant) .g-each (steps bs) (byteStep (s .0)))
+            ∙ ap (λ k. counted k (countsOf net bs) .taken) (s .2),
+      )
 
-    by-net : (r : ℕ) → refusal net ≡ r
-        → (r else when (outside (nodesOf net) i) 11 else tenRefusal net bs else when (isUnstarted (phase (network net) (steps bs) i)) 12 else when (ltb 27 long) 13) ≢ 13
-    by-net zero z e = by-node z (outside (nodesOf net) i) refl e
-    by-net (suc r) z e = omega (arith, small-network net)
+  -- the route
+  -- where an entry is known the nodes passed are the route
+  are-route : (bs : List ℕ) (i y d h : ℕ) → entryAfter net bs i y ≡ known d h → nodesPassed net bs i y ≡ route (stateAfter net bs) y i
+  are-route bs i y d h is = ap (λ (x : Entry). passed x (route (stateAfter net bs) y i)) is
 
--- read back
-same : (net bs : List ℕ) (i wide : ℕ) → writeRefusal net bs i wide ≡ 0 → (y : ℕ) → IsNode (nodesOf net) y
-    → readAnswer (entryRead one (fileAfter net bs i) y) ≡ entryAnswer net bs i y
-same net bs i wide e y at =
-    let w = wrote net bs i wide e in
-    ap readAnswer (file-laws (network net) (w .accepted) .a-same-entries (steps bs) i (w .started) y at)
-    ∙ sym (answered net bs i y (beside net bs i y w at))
+  way : (bs : List ℕ) (i y d h : ℕ) → entryRefusal net bs i y ≡ 0 → entryAfter net bs i y ≡ known d h → Way net bs i y d h
+  way bs i y d h e is =
+      let a = asked net sound bs i y e in
+      let r = route-laws (net .meant) .arrives (a .accepted) (steps bs) i y d h (a .node) is in
+      let here = are-route bs i y d h is in
+      let onward : i ≢ y → Known (net .meant) (steps bs) h y = λ ne. hop-known (net .meant) (steps bs) i y d h ne is (method-laws (net .meant) .f-hops-lead (a .accepted .valid) (a .accepted .positive) (steps bs) i y d h is) in
+      record {
+        here = λ q. here ∙ r .here q;
+        next = λ ne. here ∙ r .next ne ∙ ap (λ (xs : List ℕ). h ∷ xs) (sym (are-route bs h y (onward ne .0) (onward ne .1) (onward ne .2)));
+        over-arcs = subst (λ (xs : List ℕ). Over (net .meant .arcs) i xs d) (sym here) (r .over-arcs);
+        ends = ap (lastOf i) here ∙ r .ends;
+      }
+
+  -- the nodes passed in the room
+  route-room : (bs : List ℕ) (i y : ℕ) (room : List ℕ) → entryRefusal net bs i y ≡ 0
+      → take (length (nodesPassed net bs i y)) (routeRoom net bs i y room) ≡ nodesPassed net bs i y
+  route-room bs i y room e =
+      ap (λ (r : ℕ). take (length (nodesPassed net bs i y)) (keptIf r room (begins (nodesPassed net bs i y) room))) e
+      ∙ take-at (nodesPassed net bs i y) (drop (length (nodesPassed net bs i y)) room) (length (nodesPassed net bs i y)) refl
+
+  -- the file in the room
+  written : (bs : List ℕ) (i : ℕ) (room : List ℕ) → writeRefusal net bs i (length room) ≡ 0
+      → take (length (fileAfter net bs i)) (writeRoom net bs i room) ≡ fileAfter net bs i
+  written bs i room e =
+      ap (λ (r : ℕ). take (length (fileAfter net bs i)) (keptIf r room (begins (fileAfter net bs i) room))) e
+      ∙ take-at (fileAfter net bs i) (drop (length (fileAfter net bs i)) room) (length (fileAfter net bs i)) refl
+
+  -- 27 bytes are enough
+  fits : (bs : List ℕ) (i : ℕ) → writeRefusal net bs i 27 ≢ 13
+  fits bs i = by-net (net .refused) refl
+    where
+      long : ℕ
+      long = length (fileAfter net bs i)
+
+      by-room : net .refused ≡ 0 → outside (nodesOf net) i ≡ false → (u : Bool) → isUnstarted (phase (net .meant) (steps bs) i) ≡ u
+          → (t : Bool) → ltb 27 long ≡ t → when u 12 else when t 13 ≢ 13
+      by-room z out true un t ef e = omega arith
+      by-room z out false un false ef e = omega arith
+      by-room z out false un true ef e =
+          let a = sound z in
+          let up : phase (net .meant) (steps bs) i ≢ unstarted = λ q. true≢false (sym (ap isUnstarted q) ∙ un) in
+          omega (arith, ltb-true 27 long ef, at-most-27 (net .meant) a (steps bs) i (inside (nodesOf net) i out, up))
+
+      by-node : net .refused ≡ 0 → (o : Bool) → outside (nodesOf net) i ≡ o
+          → when o 11 else tenRefusal net bs else when (isUnstarted (phase (net .meant) (steps bs) i)) 12 else when (ltb 27 long) 13 ≢ 13
+      by-node z true out e = omega arith
+      by-node z false out e =
+          by-room z out (isUnstarted (phase (net .meant) (steps bs) i)) refl (ltb 27 long) refl
+          (sym (ap (λ (r : ℕ). r else when (isUnstarted (phase (net .meant) (steps bs) i)) 12 else when (ltb 27 long) 13) (never-ten net bs sound z)) ∙ e)
+
+      by-net : (r : ℕ) → net .refused ≡ r
+          → (r else when (outside (nodesOf net) i) 11 else tenRefusal net bs else when (isUnstarted (phase (net .meant) (steps bs) i)) 12 else when (ltb 27 long) 13) ≢ 13
+      by-net zero z e = by-node z (outside (nodesOf net) i) refl e
+      by-net (suc r) z e = not-13 (z ∙ e)
+
+  -- read back
+  same : (bs : List ℕ) (i wide : ℕ) → writeRefusal net bs i wide ≡ 0 → (y : ℕ) → IsNode (nodesOf net) y
+      → readAnswer (entryRead one (fileAfter net bs i) y) ≡ entryAnswer net bs i y
+  same bs i wide e y at =
+      let w = wrote net sound bs i wide e in
+      ap readAnswer (file-laws (net .meant) (w .accepted) .a-same-entries (steps bs) i (w .started) y at)
+      ∙ sym (answered net bs i y (beside net bs i y w at))
+
+  pub right-tables : RightTables net
+  right-tables =
+      record {
+        right = right;
+        exactly = λ bs i y e stop. method-laws (net .meant) .d-unreachable (asked net sound bs i y e .accepted .valid) (steps bs) i stop y;
+        filled = filled;
+        progress = progress;
+        ends = λ bs e. ends net (sound e) bs;
+        total = λ bs. method-laws (net .meant) .g-total (steps bs) ∙ length-map bs byteStep;
+        way = way;
+        route-room = route-room;
+        written = written;
+        fits = fits;
+        same = same;
+      }
 
 -- the bytes of an arc list, in the room
 both-entries : (n lmax : ℕ) (ar : List Arc) (room : List ℕ) → listRefusal n lmax ar ≡ 0
@@ -173,15 +224,7 @@ both-entries n lmax ar room e =
 pub requirement2 : Requirement2
 requirement2 =
     record {
-      right = right;
-      exactly = λ net bs i y e stop. method-laws (network net) .d-unreachable (asked net bs i y e .accepted .valid) (steps bs) i stop y;
-      filled = filled;
-      progress = progress;
-      ends = ends;
-      total = λ net bs. method-laws (network net) .g-total (steps bs) ∙ length-map bs byteStep;
-      way = way;
-      written = written;
-      fits = fits;
-      same = same;
+      bytes = λ s. right-tables (fromBytes s) (checks .bytes-accepted s) (early-bytes s .1);
+      list = λ n lmax ar. right-tables (fromList n lmax ar) (checks .list-accepted n lmax ar) (early-list n lmax ar .1);
       both-entries = both-entries;
     }

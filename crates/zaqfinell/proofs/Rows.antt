@@ -14,11 +14,12 @@ use Rattle.method.specs.Rules.{Phase, unstarted, started, stopped}
 use Rattle.method.specs.Steps.{State, sents, steps, run, overfull, refused10}
 use Rattle.method.specs.Entries.{phase}
 use Rattle.network.specs.Refusal.{when, _else_, outside, joined, arcRefusal, arcsRefusal}
-use Rattle.network.specs.Bytes.{version, nodes, lmax, fourth, count, arcs, network, size, padding, headRefusal, refusal}
+use Rattle.network.specs.Bytes.{version, nodes, lmax, fourth, count, arcs, size, padding, headRefusal, refusal}
 use Rattle.network.specs.ArcList.{sizeRefusal, listRefusal}
+use Rattle.network.specs.Checked.{Checked}
 use Rattle.network.proofs.Refused.{inside, not-outside}
 use Rattle.calls.specs.Calls.{nodesOf, tenRefusal, runRefusal, entryRefusal, isUnstarted, fileAfter, writeRefusal}
-use Rattle.zaqfinell.specs.Rows.{_given_else_, none, Exactly, Outside, arcRows, byteRows, listRows, NoRoom, runRows, entryRows, writeRows}
+use Rattle.zaqfinell.specs.Rows.{_given_else_, none, Exactly, Outside, arcRows, byteRows, listRows, NoRoom, NetworkRows, runRows, entryRows, writeRows}
 
 -- a test decides: it holds, or it does not
 pub record Decides (t : Bool) (Holds : Type 0) : Type 0 where
@@ -167,8 +168,8 @@ is-overfull st zero = record { yes = λ e. absurd (true≢false (sym e)); no = �
 is-overfull st (suc k) = overfull-next st k _ _ refl (is-overfull st k)
 
 -- the rows of a run
-pub by-ten : (net bs : List ℕ) (rows : ℕ → Type 0) (q : ℕ) → Exactly rows q → Exactly (10 given NoRoom (network net) bs else rows) (tenRefusal net bs else q)
-by-ten net bs rows q ex = by-row 9 (refused10 (network net) (steps bs)) _ _ _ (is-overfull (run (network net) (steps bs)) (nodesOf net)) ex
+by-ten : (net : Checked) (bs : List ℕ) (rows : ℕ → Type 0) (q : ℕ) → Exactly rows q → Exactly (10 given NoRoom (net .meant) bs else rows) (tenRefusal net bs else q)
+by-ten net bs rows q ex = by-row 9 (refused10 (net .meant) (steps bs)) _ _ _ (is-overfull (run (net .meant) (steps bs)) (nodesOf net)) ex
 
 pub last : (r : ℕ) → r else 0 ≡ r
 last zero = refl
@@ -178,24 +179,31 @@ last (suc r) = refl
 pub by-last : (N : ℕ) (t : Bool) (Holds : Type 0) → Decides t Holds → Exactly (suc N given Holds else none) (when t (suc N))
 by-last N t Holds d = same _ _ _ (last (when t (suc N))) (by-row N t Holds none 0 d none-told)
 
-pub by-run : (net bs : List ℕ) → Exactly (runRows net bs) (runRefusal net bs)
-by-run net bs = by-bytes net _ _ (same _ _ _ (last (tenRefusal net bs)) (by-ten net bs none 0 none-told))
-
-pub by-entry : (net bs : List ℕ) (i y : ℕ) → Exactly (entryRows net bs i y) (entryRefusal net bs i y)
-by-entry net bs i y =
-    let ten = same _ _ _ (last (tenRefusal net bs)) (by-ten net bs none 0 none-told) in
-    let d = both (outside (nodesOf net) i) (outside (nodesOf net) y) _ _ (is-outside (nodesOf net) i) (is-outside (nodesOf net) y) in
-    by-bytes net _ _ (same _ _ _ (twice (outside (nodesOf net) i) (outside (nodesOf net) y) 10 _) (by-row 10 (outside (nodesOf net) i || outside (nodesOf net) y) _ _ _ d ten))
-
 -- "a node not started"
 is-unstarted : (ph : Phase) → Decides (isUnstarted ph) (ph ≡ unstarted)
 is-unstarted unstarted = record { yes = λ _. refl; no = λ e. absurd (true≢false e) }
 is-unstarted started = record { yes = λ e. absurd (true≢false (sym e)); no = λ _ e. true≢false (sym (ap isUnstarted e)) }
 is-unstarted stopped = record { yes = λ e. absurd (true≢false (sym e)); no = λ _ e. true≢false (sym (ap isUnstarted e)) }
 
-pub by-write : (net bs : List ℕ) (i wide : ℕ) → Exactly (writeRows net bs i (length (fileAfter net bs i)) wide) (writeRefusal net bs i wide)
-by-write net bs i wide =
-    let long = length (fileAfter net bs i) in
-    let r13 = by-last 12 (ltb wide long) _ (less wide long) in
-    let r12 = by-row 11 (isUnstarted (phase (network net) (steps bs) i)) _ _ _ (is-unstarted (phase (network net) (steps bs) i)) r13 in
-    by-bytes net _ _ (by-row 10 (outside (nodesOf net) i) _ _ _ (is-outside (nodesOf net) i) (by-ten net bs _ _ r12))
+-- of a network that is handed over, whose own rows come first
+module _ (first : NetworkRows) (net : Checked) (by-first : (rows : ℕ → Type 0) (q : ℕ) → Exactly rows q → Exactly (first rows) (net .refused else q)) where
+  pub by-check : Exactly (first none) (net .refused)
+  by-check = same _ _ _ (last (net .refused)) (by-first none 0 none-told)
+
+  ten : (bs : List ℕ) → Exactly (10 given NoRoom (net .meant) bs else none) (tenRefusal net bs)
+  ten bs = same _ _ _ (last (tenRefusal net bs)) (by-ten net bs none 0 none-told)
+
+  pub by-run : (bs : List ℕ) → Exactly (runRows first (net .meant) bs) (runRefusal net bs)
+  by-run bs = by-first _ _ (ten bs)
+
+  pub by-entry : (bs : List ℕ) (i y : ℕ) → Exactly (entryRows first (net .meant) bs i y) (entryRefusal net bs i y)
+  by-entry bs i y =
+      let d = both (outside (nodesOf net) i) (outside (nodesOf net) y) _ _ (is-outside (nodesOf net) i) (is-outside (nodesOf net) y) in
+      by-first _ _ (same _ _ _ (twice (outside (nodesOf net) i) (outside (nodesOf net) y) 10 _) (by-row 10 (outside (nodesOf net) i || outside (nodesOf net) y) _ _ _ d (ten bs)))
+
+  pub by-write : (bs : List ℕ) (i wide : ℕ) → Exactly (writeRows first (net .meant) bs i (length (fileAfter net bs i)) wide) (writeRefusal net bs i wide)
+  by-write bs i wide =
+      let long = length (fileAfter net bs i) in
+      let r13 = by-last 12 (ltb wide long) _ (less wide long) in
+      let r12 = by-row 11 (isUnstarted (phase (net .meant) (steps bs) i)) _ _ _ (is-unstarted (phase (net .meant) (steps bs) i)) r13 in
+      by-first _ _ (by-row 10 (outside (nodesOf net) i) _ _ _ (is-outside (nodesOf net) i) (by-ten net bs _ _ r12))

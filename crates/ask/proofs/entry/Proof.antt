@@ -1,4 +1,5 @@
 -- `entry`: read from what the run has left.
+use Rattle.network.specs.Layout.{fromLayout}
 use Rattle.ask.proofs.Answering.{entry-refused, readies, hop-low, distance-low, entry-answered}
 use native.Mathlib.Omega.{arith}
 use borrow.Author.Needs.{needs}
@@ -13,9 +14,9 @@ run-for-requires c κs = search needs
 
 returns : tie.Need-returns
 returns c =
-    let a = c .before .before .before .before .before .before .args in
+    let a = c .before .before .before .before .before .args in
     let run = c .before .before .run-for in
-    entry-refused (a .net .now) (a .steps .now) (a .node) (a .target) (run .result) (run .ensures .0) (c .if1 .taken)
+    entry-refused (fromLayout (a .refused) (a .laid .now)) (a .steps .now) (a .node) (a .target) (run .result) (run .ensures .0) (c .if1 .taken)
 
 slice-aggregate-first-hop : tie.Need-slice-aggregate-first-hop
 slice-aggregate-first-hop c = search needs

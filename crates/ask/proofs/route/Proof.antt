@@ -1,4 +1,5 @@
 -- `route`: the way, from what the run has left.
+use Rattle.network.specs.Layout.{fromLayout}
 use Rattle.ask.proofs.Answering.{route-refused, readies, nodes-low, distance-low, route-answered}
 use native.Mathlib.Omega.{arith}
 use borrow.Author.Needs.{needs}
@@ -13,9 +14,9 @@ run-for-requires c κs = search needs
 
 returns : tie.Need-returns
 returns c =
-    let a = c .before .before .before .before .before .before .args in
+    let a = c .before .before .before .before .before .args in
     let run = c .before .before .run-for in
-    route-refused (a .net .now) (a .steps .now) (a .node) (a .target) (run .result) (run .ensures .0) (c .if1 .taken) (a .room .now)
+    route-refused (fromLayout (a .refused) (a .laid .now)) (a .steps .now) (a .node) (a .target) (run .result) (run .ensures .0) (c .if1 .taken) (a .room .now)
 
 slice-aggregate-find-way : tie.Need-slice-aggregate-find-way
 slice-aggregate-find-way c = search needs

@@ -3,7 +3,7 @@ use mathlib.Core.Path.{_≡_, sym, _∙_}
 use Prim.Native.Nat.{_+_}
 use borrow.Author.Tests.{eq-eqb, ne-eqb}
 use Rattle.network.specs.Bytes.{nodes, lmax, count, padding}
-use Rattle.network.proofs.Header.{header}
+use Rattle.network.proofs.BeforeArcs.{header}
 use Rattle.network.proofs.AsList.{length-arcs}
 use Rattle.network.proofs.WithArc.{length-headed}
 use Rattle.network.proofs.Whole.{padding-read, refused-head, refused-arcs, past-arcs}

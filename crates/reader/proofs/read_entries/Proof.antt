@@ -2,7 +2,7 @@
 use mathlib.Core.Path.{sym, _∙_, ap}
 use mathlib.Core.Bool.{true, false}
 use Rattle.table.specs.Reader.{Reading}
-use Rattle.table.specs.Calls.{entriesOutcome, entriesRoom}
+use Rattle.table.specs.Calls.{entriesOutcome, tableRoom}
 use Rattle.records.proofs.SoundHeader.{fault-refuses}
 use Rattle.reader.proofs.AllRead.{count-lists, count-refuses}
 use native.Mathlib.Omega.{arith}
@@ -16,7 +16,7 @@ header-fault-requires c κs = search needs
 returns : tie.Need-returns
 returns c =
     let e = sym (fault-refuses (c .before .before .before .before .args .file .now) _ (c .before .header-fault .ensures) (omega arith)) in
-    (ap (λ (x : Reading). entriesOutcome x (c .before .before .before .before .args .room .now)) e, ap (λ (x : Reading). entriesRoom x (c .before .before .before .before .args .room .now)) e)
+    (ap (λ (x : Reading). entriesOutcome x (c .before .before .before .before .args .room .now)) e, ap (λ (x : Reading). tableRoom x (c .before .before .before .before .args .room .now)) e)
 
 header-requires : tie.Need-header-requires
 header-requires c κs = sym (c .before .header-fault .ensures) ∙ omega arith
@@ -66,7 +66,7 @@ returns-3 c =
 returns-4 : tie.Need-returns-4
 returns-4 c =
     let e = sym (count-refuses (c .before .before .before .before .before .before .before .before .before .args .file .now) _ (c .before .before .before .before .header .ensures) _ (c .before .before .before .count .ensures) _ (c .before .ending .given .1)) in
-    (ap (λ (x : Reading). entriesOutcome x (c .before .before .before .before .before .before .before .before .before .args .room .now)) e, ap (λ (x : Reading). entriesRoom x (c .before .before .before .before .before .before .before .before .before .args .room .now)) e)
+    (ap (λ (x : Reading). entriesOutcome x (c .before .before .before .before .before .before .before .before .before .args .room .now)) e, ap (λ (x : Reading). tableRoom x (c .before .before .before .before .before .before .before .before .before .args .room .now)) e)
 
 pub read-entries-spec : {M : Type 1} → statement M
 read-entries-spec =

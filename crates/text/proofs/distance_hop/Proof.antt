@@ -1,21 +1,21 @@
 -- `distance_hop`: the tests of the distance kind tell which entry it is.
 use mathlib.Core.Path.{_≡_, sym, _∙_}
 use Rattle.method.specs.Entries.{unknown, unreachable, known}
-use Rattle.text.specs.Handed.{entryOf}
+use Rattle.text.specs.Handed.{entryBy}
 use Rattle.text.proofs.Writing.{front, rest, both}
 use native.Mathlib.Omega.{arith}
 use borrow.Author.Needs.{needs}
 use Rattle.text.proofs.distance_hop.Statement.{statement}
 use Rattle.text.proofs.distance_hop.Tie as tie
 
-is-unknown : (c : tie.Then1) → let a = c .before .before .before .args in entryOf (a .d) (a .h) ≡ unknown
+is-unknown : (c : tie.Then1) → let a = c .before .before .before .args in entryBy (a .d) (a .h) ≡ unknown
 is-unknown c = rw (sym (c .before .is-unknown .ensures) ∙ c .if1 .taken)
 
-is-unreachable : (c : tie.Then2) → let a = c .before .before .before .before .before .args in entryOf (a .d) (a .h) ≡ unreachable
+is-unreachable : (c : tie.Then2) → let a = c .before .before .before .before .before .args in entryBy (a .d) (a .h) ≡ unreachable
 is-unreachable c =
     rw (sym (c .before .before .before .is-unknown .ensures) ∙ c .before .before .if1 .left, sym (c .before .is-unreachable .ensures) ∙ c .if2 .taken)
 
-is-known : (c : tie.Else2) → let a = c .before .before .before .before .before .args in entryOf (a .d) (a .h) ≡ known (a .d) (a .h)
+is-known : (c : tie.Else2) → let a = c .before .before .before .before .before .args in entryBy (a .d) (a .h) ≡ known (a .d) (a .h)
 is-known c =
     rw (sym (c .before .before .before .is-unknown .ensures) ∙ c .before .before .if1 .left, sym (c .before .is-unreachable .ensures) ∙ c .if2 .left)
 
