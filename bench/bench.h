@@ -79,12 +79,13 @@ static void begin_table(const char *what, const char *unit, double wanted)
     printf("%-30s %10s   wanted: at most %.2f\n", "", "", wanted);
 }
 
-/* A case: the library's time, and its ratio to plain C at both levels; a ratio over the wanted one is marked. The line is not ended. */
+/* A case: the library's time, and its ratio to plain C at both levels; a ratio over the wanted one, if any (0: none), is marked. The line
+ * is not ended. */
 static void print_row(const char *name, double library, struct timing t, double wanted)
 {
     struct ratio a = t.to[1], b = t.to[2];
     printf("%-30s %10.1f   %.2f (%.2f to %.2f) %-8s %.2f (%.2f to %.2f)", name, library, a.middle, a.low, a.high,
-        a.middle > wanted ? "OVER" : "", b.middle, b.low, b.high);
+        wanted > 0 && a.middle > wanted ? "OVER" : "", b.middle, b.low, b.high);
     fflush(stdout);
 }
 #endif
