@@ -2,8 +2,9 @@
  *
  * Link with libzaqfinell.a. Each call takes numbers and buffers and gives one number. No call keeps anything, allocates anything or needs
  * to be set up, so calls may be made from several tasks at once. Lengths and contents may be anything: what is wrong is refused with its
- * number, and then nothing is written (zaq_house_table, whose text is its answer, writes the line). Pointers are valid for their lengths
- * and buffers do not overlap; one of length 0 may be NULL.
+ * number, and then nothing is written (zaq_house_table, whose text is its answer, writes the line). Each length is the number of elements
+ * of the buffer before it: of bytes, of arcs, or of 16-bit numbers. Pointers are valid for their lengths and buffers do not overlap; one
+ * of length 0 may be NULL. The library needs memcpy and memset, and nothing else.
  *
  * Stack, measured on x86-64: under 16 KiB for a call that runs steps, under 256 bytes for reading a file (docs/BENCHMARKS.md has each).
  */
@@ -18,26 +19,28 @@ extern "C" {
 
 /* ---- The words ----
  *
- * A house has n nodes, numbered 1 to n (at most 16), and one-way arcs (at most 240). An arc leads from its tail to its head: its tail
- * hears what its head sends, and routes and distances run from tail to head. Its length is 1 to LMAX, the house's greatest length,
- * itself 1 to 15. Two devices on one cable are two arcs.
+ * A house has n nodes, numbered 1 to n (at most 16), and one-way arcs (at most 240). An arc leads from its tail to its head: sound that
+ * can go from the television to the kitchen is the arc {television, kitchen, length}. Routes and distances run from tail to head; the
+ * messages by which tables are found run the other way, so a tail hears what its head sends. A length is 1 to LMAX, the house's greatest
+ * length, itself 1 to 15. Two devices on one cable are two arcs.
  *
  * Network bytes: 4 bits each: version 1, n - 1, LMAX, 0; 8 bits: the arc count; then for each arc 4 bits each: tail - 1, head - 1, length;
- * zero bits to the byte's end. The most significant bit is first. zaq_pack_network makes them of a list, and each call that takes them,
- * but zaq_house_table, takes a list too.
+ * zero bits to the byte's end. The most significant bit is first. zaq_pack_network makes them of a list, and each call that takes them
+ * has a twin that takes a list (zaq_house_table has none).
  *
  * A step is one byte. 0 to 15: start node byte + 1. 16 to 255: deliver the oldest undelivered message of arc byte - 15, numbered from 1 in
  * the network's order. A step that names no node or arc is counted unknown; a second start, or a delivery where nothing is undelivered,
  * is counted idle; neither changes anything. All others are taken. A message that is delivered to a node before its start is kept.
- * A list of steps may have any length. A node that has stopped knows all that there is to know. While a node has not stopped some step
- * is always taken, and no node sends more than n * LMAX + n + 1 messages: start every node, then deliver on every arc in turn, until as
- * many have stopped as there are.
+ * A list of steps may have any length; a longer list is a longer run, so to go on is to call again with the whole list. A node that has
+ * stopped knows all that there is to know. While a node has not stopped some step can be taken, and no node sends more than
+ * n * LMAX + n + 1 messages: start every node, then deliver on every arc in turn, until zaq_run counts as many stopped as there are.
  *
  * An entry is node i's knowledge of a target: unknown, unreachable, or a distance with a first hop. It is right and final as soon as it
  * is not unknown, in every order of steps. Before its start a node knows nothing, itself neither; unreachable is said from its stop on.
  *
- * A table file holds a node's entries in the order in which it filled them, 2 to 27 bytes. Cut short after the second byte or later, it
- * gives the entries that stand whole, and unknown for the rest: that is not told apart from the file of a node that has not stopped.
+ * A table file holds a record for each entry that a node has filled, its own left out, in the order of filling, and an end mark once the
+ * node has stopped: 2 to 27 bytes. Cut short after the second byte or later, it gives the entries whose records stand whole, and unknown
+ * for the rest: that is not told apart from the file of a node that has not stopped.
  */
 
 /* ---- Answers ----
@@ -86,17 +89,18 @@ static inline uint32_t zaq_written(uint32_t answer) { return answer >> 8 & 65535
 
 /* ---- The firmware's three calls ---- */
 
-/* Checks a network's bytes. Refusals: the network's. */
+/* Checks a network's bytes: the answer is 0 or the refusal. Refusals: the network's. */
 uint32_t zaq_check_network(const uint8_t *net, size_t net_len);
 
 /* Runs the steps over the network and writes the table file of one node at the room's start: zaq_written bytes. The room's other bytes
  * stay. Refusals: the network's, 11, 12, 13; a room of ZAQ_FILE_ROOM is always enough.
  */
 enum { ZAQ_FILE_ROOM = 27 };
-uint32_t zaq_write_table(const uint8_t *net, size_t net_len, const uint8_t *steps, size_t steps_len, uint32_t node, uint8_t *room, size_t room_len);
+uint32_t zaq_write_table(
+    const uint8_t *net, size_t net_len, const uint8_t *steps, size_t steps_len, uint32_t node, uint8_t *room, size_t room_len);
 
-/* Reads one entry from a table file, whole or cut: zaq_distance and zaq_hop. file_len is the file's length, not the room's: bytes behind the
- * end mark are refused. Refusals: 14, 15, 16, 17 record by record, 18, then 11 for the target.
+/* Reads one entry from a table file, whole or cut: zaq_distance and zaq_hop. file_len is the file's length, not the room's: bytes behind
+ * the end mark are refused. Refusals: 14, 15, 16, 17 record by record, 18, then 11 for the target.
  */
 uint32_t zaq_read_entry(const uint8_t *file, size_t file_len, uint32_t target);
 
@@ -108,21 +112,24 @@ uint32_t zaq_read_entry(const uint8_t *file, size_t file_len, uint32_t target);
 enum { ZAQ_TABLE_ROOM = 32 };
 uint32_t zaq_read_table(const uint8_t *file, size_t file_len, uint16_t *room, size_t room_len);
 
-/* The whole outcome of a run. counts: how many steps were taken, idle, unknown, and how many nodes have stopped.
- * entries[i - 1][y - 1]: node i's distance to y, or a mark, and its first hop, for i and y from 1 to n; the others stay.
+/* The whole outcome of a run; the answer is 0 or the refusal. counts: how many steps were taken, idle, unknown, and how many nodes have
+ * stopped. entries[i - 1][y - 1]: node i's distance to y, or a mark, and its first hop, for i and y from 1 to n; the others stay.
  * Refusals: the network's.
  */
-uint32_t zaq_run(const uint8_t *net, size_t net_len, const uint8_t *steps, size_t steps_len, uint64_t counts[4], uint16_t entries[16][16][2]);
+uint32_t zaq_run(
+    const uint8_t *net, size_t net_len, const uint8_t *steps, size_t steps_len, uint64_t counts[4], uint16_t entries[16][16][2]);
 
 /* One entry after a run: the node's for the target, zaq_distance and zaq_hop. Refusals: the network's, 11. */
 uint32_t zaq_entry(const uint8_t *net, size_t net_len, const uint8_t *steps, size_t steps_len, uint32_t node, uint32_t target);
 
-/* The route from node to target after a run. zaq_distance is the distance or a mark; the room begins with the zaq_passed nodes behind
- * `node` on the way, target last, and its other bytes stay. None are passed beside a mark, and none where node is target.
+/* The route from node to target after a run. zaq_distance is the distance or a mark; the room begins with the zaq_passed nodes that
+ * come after `node` on the way, target last, and its other bytes stay. None are passed beside a mark, and none where node is target.
  * Refusals: the network's, 11.
  */
 enum { ZAQ_ROUTE_ROOM = 16 };
-uint32_t zaq_route(const uint8_t *net, size_t net_len, const uint8_t *steps, size_t steps_len, uint32_t node, uint32_t target, uint8_t room[ZAQ_ROUTE_ROOM]);
+uint32_t zaq_route(
+    const uint8_t *net, size_t net_len, const uint8_t *steps, size_t steps_len, uint32_t node, uint32_t target,
+    uint8_t room[ZAQ_ROUTE_ROOM]);
 
 /* ---- A network handed over as a list of arcs ----
  *
@@ -136,10 +143,18 @@ typedef struct zaq_arc {
     uint8_t length;
 } zaq_arc;
 uint32_t zaq_check_arcs(uint8_t n, uint8_t lmax, const zaq_arc *arcs, size_t arcs_len);
-uint32_t zaq_write_table_arcs(uint8_t n, uint8_t lmax, const zaq_arc *arcs, size_t arcs_len, const uint8_t *steps, size_t steps_len, uint32_t node, uint8_t *room, size_t room_len);
-uint32_t zaq_run_arcs(uint8_t n, uint8_t lmax, const zaq_arc *arcs, size_t arcs_len, const uint8_t *steps, size_t steps_len, uint64_t counts[4], uint16_t entries[16][16][2]);
-uint32_t zaq_entry_arcs(uint8_t n, uint8_t lmax, const zaq_arc *arcs, size_t arcs_len, const uint8_t *steps, size_t steps_len, uint32_t node, uint32_t target);
-uint32_t zaq_route_arcs(uint8_t n, uint8_t lmax, const zaq_arc *arcs, size_t arcs_len, const uint8_t *steps, size_t steps_len, uint32_t node, uint32_t target, uint8_t room[ZAQ_ROUTE_ROOM]);
+uint32_t zaq_write_table_arcs(
+    uint8_t n, uint8_t lmax, const zaq_arc *arcs, size_t arcs_len, const uint8_t *steps, size_t steps_len, uint32_t node, uint8_t *room,
+    size_t room_len);
+uint32_t zaq_run_arcs(
+    uint8_t n, uint8_t lmax, const zaq_arc *arcs, size_t arcs_len, const uint8_t *steps, size_t steps_len, uint64_t counts[4],
+    uint16_t entries[16][16][2]);
+uint32_t zaq_entry_arcs(
+    uint8_t n, uint8_t lmax, const zaq_arc *arcs, size_t arcs_len, const uint8_t *steps, size_t steps_len, uint32_t node,
+    uint32_t target);
+uint32_t zaq_route_arcs(
+    uint8_t n, uint8_t lmax, const zaq_arc *arcs, size_t arcs_len, const uint8_t *steps, size_t steps_len, uint32_t node,
+    uint32_t target, uint8_t room[ZAQ_ROUTE_ROOM]);
 
 /* The list as network bytes, at the room's start: zaq_written of them, which the calls without `_arcs` take. The room's other bytes stay.
  * Refusals: the list's.

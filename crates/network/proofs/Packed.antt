@@ -21,9 +21,6 @@ use Rattle.network.specs.Fits.{AllFit}
 use Rattle.network.proofs.Refused.{not-outside}
 use Rattle.network.proofs.Sound.{each-sound, Taken}
 
-abbrev bitsOfArc : Arc → List ℕ
-bitsOfArc a = asBits 4 (a .tail - 1) ++ asBits 4 (a .head - 1) ++ asBits 4 (a .len)
-
 length-arcBits : (ar : List Arc) → length (arcBits ar) ≡ 12 * length ar
 unfolding arcBits
 length-arcBits [] = refl
