@@ -2,7 +2,7 @@
 #include "bench.h"
 #include "houses.h"
 #include "plain.h"
-#include "../tests/outside/reference.h"
+#include "../tests/outside/in_header.h"
 #include <string.h>
 
 enum { HOUSES = 8, TRIALS = 20000, NOT_ASKED = 0 };
@@ -92,9 +92,7 @@ static void build_lists(void)
     for (int k = 0; k < HOUSES; k++) {
         struct ref_net net;
         ref_read_network(houses[k].net, houses[k].net_len, &net);
-        counts[k] = net.arcs;
-        for (unsigned a = 0; a < net.arcs; a++)
-            lists[k][a] = (zaq_arc){(uint8_t)net.arc[a].tail, (uint8_t)net.arc[a].head, (uint8_t)net.arc[a].len};
+        counts[k] = arc_list(&net, lists[k]);
     }
 }
 

@@ -1,6 +1,6 @@
 #include "houses.h"
 #include "../include/zaqfinell.h"
-#include "../tests/outside/reference.h"
+#include "../tests/outside/in_header.h"
 #include <stdio.h>
 #include <stdlib.h>
 #include <string.h>
@@ -77,9 +77,8 @@ static void note_outcome(struct house *h, const struct ref_run *run)
     for (unsigned i = 1; i <= 16; i++)
         for (unsigned y = 1; y <= 16; y++) {
             struct ref_entry e = ref_entry_of(run, i, y);
-            int mark = e.distance == UNKNOWN ? ZAQ_UNKNOWN : ZAQ_UNREACHABLE;
-            h->expected.entries[i - 1][y - 1][0] = (uint16_t)(e.distance < 0 ? mark : e.distance);
-            h->expected.entries[i - 1][y - 1][1] = (uint16_t)(e.distance < 0 ? ZAQ_NO_HOP : e.hop);
+            h->expected.entries[i - 1][y - 1][0] = (uint16_t)header_distance(e);
+            h->expected.entries[i - 1][y - 1][1] = (uint16_t)header_hop(e);
         }
     for (unsigned i = 1; i <= 16; i++)
         h->file_len[i - 1] = run->node[i].started ? ref_write_file(run, i, h->file[i - 1]) : 0;

@@ -2,7 +2,7 @@
 #include "bench.h"
 #include "houses.h"
 #include "plain.h"
-#include "../tests/outside/reference.h"
+#include "../tests/outside/in_header.h"
 #include <string.h>
 
 enum { FILES = 64, OTHERS = 15, TRIALS = 20000 };
@@ -101,10 +101,7 @@ static uint32_t expected(const struct asked_file *f)
         return refusal;
     if (f->target < 1 || f->target > file.n)
         return 11;
-    struct ref_entry e = ref_file_entry(&file, f->target);
-    if (e.distance < 0)
-        return (e.distance == UNKNOWN ? ZAQ_UNKNOWN : (uint32_t)ZAQ_UNREACHABLE) << 16 | ZAQ_NO_HOP << 8;
-    return (uint32_t)e.distance << 16 | e.hop << 8;
+    return entry_answer(ref_file_entry(&file, f->target));
 }
 
 /* A wrong rival is none. */

@@ -10,7 +10,7 @@ mkdir -p "$out"
 compile="${CC:-cc} -std=c99 -Wall -Wextra -Werror"
 
 # the competitor at both levels, the houses, and the outside tests' simulation, which says what is right
-parts=("$out/houses.o" "$out/reference.o" "$out/reference_run.o")
+parts=("$out/houses.o" "$out/reference.o" "$out/reference_run.o" "$out/in_header.o")
 for source in plain_run plain_list plain_read plain_shortest; do
     for level in O2 O3; do
         $compile "-$level" -DLEVEL="$level" -c "bench/$source.c" -o "$out/${source}_$level.o"
@@ -18,7 +18,7 @@ for source in plain_run plain_list plain_read plain_shortest; do
     done
 done
 $compile -O2 -c bench/houses.c -o "$out/houses.o"
-for source in reference reference_run; do $compile -O2 -c "tests/outside/$source.c" -o "$out/$source.o"; done
+for source in reference reference_run in_header; do $compile -O2 -c "tests/outside/$source.c" -o "$out/$source.o"; done
 
 echo "the library against plain C, $(${CC:-cc} --version | head -n 1); load when it began: $(cut -d ' ' -f 1 /proc/loadavg)"
 echo "a ratio is the middle of 101 rounds, the middle half of them in brackets"

@@ -1,6 +1,6 @@
 /* The most stack that each call takes, measured: all below the caller's own frame is filled with a pattern, then the call is made. */
 #include "houses.h"
-#include "../include/zaqfinell.h"
+#include "../tests/outside/in_header.h"
 #include <stdio.h>
 #include <string.h>
 
@@ -93,7 +93,7 @@ static void write_table_arcs(void)
     sink = zaq_write_table_arcs(LIST_RUN, 1, file, sizeof file);
 }
 
-/* In the order of the table; 0 is wanted where nothing is said. */
+/* In the order of the table; 0: nothing is asked. */
 static const struct {
     const char *name;
     void (*call)(void);
@@ -129,23 +129,15 @@ static __attribute__((noinline)) size_t used(void (*call)(void))
     return (size_t)(here - lowest);
 }
 
-/* Every arc that a house of sixteen can have. */
-static void build_arcs(void)
-{
-    size_t k = 0;
-    for (uint8_t tail = 1; tail <= 16; tail++)
-        for (uint8_t head = 1; head <= 16; head++)
-            if (tail != head)
-                arcs[k++] = (zaq_arc){tail, head, 15};
-}
-
 int main(void)
 {
     build_net(&house, 240, 15);
     build_steps(&house, ANY_ARC, STEP_ROOM);
     memcpy(input, house.net, house.net_len);
     memcpy(input + house.net_len, house.steps, house.steps_len);
-    build_arcs();
+    struct ref_net net;
+    ref_read_network(house.net, house.net_len, &net);
+    arc_list(&net, arcs);
     size_t caller = used(nothing); /* what a function around the call takes */
     printf("\n%-30s %10s   wanted: at most\n", "stack of a call", "bytes");
     for (size_t k = 0; k < sizeof calls / sizeof *calls; k++) {

@@ -31,13 +31,6 @@ static unsigned same_packing(uint8_t n, uint8_t lmax, size_t count, const char *
     return refusal;
 }
 
-static size_t list_of(const struct ref_net *from)
-{
-    for (unsigned k = 0; k < from->arcs; k++)
-        list[k] = (zaq_arc){(uint8_t)from->arc[k].tail, (uint8_t)from->arc[k].head, (uint8_t)from->arc[k].len};
-    return from->arcs;
-}
-
 /* What was packed is accepted, and runs as the list's network does. */
 static void runs_the_same(unsigned kind)
 {
@@ -115,7 +108,7 @@ static void faults(void)
     for (unsigned round = 0; round < 30000; round++) {
         random_network(&net);
         uint8_t n = (uint8_t)net.n, lmax = (uint8_t)net.lmax;
-        size_t count = list_of(&net);
+        size_t count = arc_list(&net, list);
         spoil(&n, &lmax, &count, numbers[random_below(7)]);
         if (n < 17 && lmax < 16 && round % 2)
             spoil(&n, &lmax, &count, numbers[random_below(7)]);
@@ -151,7 +144,7 @@ static void too_long(void)
                 random_network(&net);
             while (net.arcs != MOST_ARCS);
             uint8_t lmax = (uint8_t)net.lmax;
-            list_of(&net);
+            arc_list(&net, list);
             unsigned refusal = same_packing(16, lmax, lengths[k], "lists of 240 arcs and more");
             check(refusal == (lengths[k] > 240 ? 4 : 0), "more than 240 arcs are too many");
         }
@@ -161,7 +154,7 @@ void test_arcs(void)
 {
     for (unsigned round = 0; round < 6000; round++) {
         random_network(&net);
-        unsigned refusal = same_packing((uint8_t)net.n, (uint8_t)net.lmax, list_of(&net), "an accepted list");
+        unsigned refusal = same_packing((uint8_t)net.n, (uint8_t)net.lmax, arc_list(&net, list), "an accepted list");
         check(refusal == 0, "document 01 accepts it");
         if (round % 4 == 0)
             runs_the_same(round / 4 % STEP_KINDS);

@@ -95,8 +95,8 @@ static void same_route(enum call call, uint32_t node, uint32_t target, unsigned 
     uint32_t answer = ask_route(call, node, target);
     same_answer(call, answer, right, "one route after a run");
     check(memcmp(&got, &want, sizeof got) == 0, "the room holds the nodes passed and nothing else");
-    if (refusal == 0 && zaq_distance(answer) < ZAQ_UNREACHABLE && zaq_hop(answer) <= ZAQ_ROUTE_ROOM)
-        check(joined(node, target, got.nodes, zaq_hop(answer), zaq_distance(answer)), "arcs join the nodes passed");
+    if (refusal == 0 && zaq_distance(answer) < ZAQ_UNREACHABLE && zaq_passed(answer) <= ZAQ_ROUTE_ROOM)
+        check(joined(node, target, got.nodes, zaq_passed(answer), zaq_distance(answer)), "arcs join the nodes passed");
 }
 
 static void both(uint32_t node, uint32_t target, unsigned refusal)

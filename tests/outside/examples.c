@@ -18,7 +18,7 @@ static const uint8_t P11[] = {0x10, 0x01, 0x00};
 
 static uint32_t entry(unsigned distance, unsigned hop)
 {
-    return (uint32_t)distance << 16 | hop << 8;
+    return entry_answer((struct ref_entry){(int)distance, hop});
 }
 
 static void entry_is(unsigned node, unsigned target, unsigned distance, unsigned hop, const char *what)
@@ -26,7 +26,7 @@ static void entry_is(unsigned node, unsigned target, unsigned distance, unsigned
     uint8_t room[ZAQ_ROUTE_ROOM];
     same_answer(ENTRY, zaq_entry(Q, sizeof Q, steps, TO_THE_END, node, target), entry(distance, hop), what);
     uint32_t route = zaq_route(Q, sizeof Q, steps, TO_THE_END, node, target, room);
-    check(zaq_refusal(route) == 0 && zaq_distance(route) == distance && room[0] == hop && room[zaq_hop(route) - 1] == target, what);
+    check(zaq_refusal(route) == 0 && zaq_distance(route) == distance && room[0] == hop && room[zaq_passed(route) - 1] == target, what);
 }
 
 static void p1_to_p3(void)

@@ -42,7 +42,7 @@ static void same_text(size_t len, size_t want, const char *what)
     check(clean, "nothing is written behind the text");
 }
 
-/* Each filled entry is the truth, also early; after a stop nothing is unknown. */
+/* The simulation itself: each entry that it has filled is the truth over all chains, also early. */
 static void entries_are_true(const struct ref_truth *truth)
 {
     int right = 1;

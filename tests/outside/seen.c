@@ -48,21 +48,6 @@ void saw_distance(enum call call, unsigned distance)
         kinds[call][FARTHEST]++;
 }
 
-unsigned header_distance(struct ref_entry e)
-{
-    return e.distance == UNKNOWN ? ZAQ_UNKNOWN : e.distance == UNREACHABLE ? ZAQ_UNREACHABLE : (unsigned)e.distance;
-}
-
-unsigned header_hop(struct ref_entry e)
-{
-    return e.distance < 0 ? ZAQ_NO_HOP : e.hop;
-}
-
-uint32_t entry_answer(struct ref_entry e)
-{
-    return (uint32_t)header_distance(e) << 16 | (uint32_t)header_hop(e) << 8;
-}
-
 static int is_promised(enum call call, unsigned refusal)
 {
     for (unsigned k = 0; promised[call].refusals[k]; k++)
@@ -116,7 +101,6 @@ const uint8_t *at_edge(unsigned place, const uint8_t *bytes, size_t len)
 const zaq_arc *list_at_edge(const struct ref_net *net)
 {
     zaq_arc list[MOST_ARCS];
-    for (unsigned k = 0; k < net->arcs; k++)
-        list[k] = (zaq_arc){(uint8_t)net->arc[k].tail, (uint8_t)net->arc[k].head, (uint8_t)net->arc[k].len};
-    return (const zaq_arc *)at_edge(2, (const uint8_t *)list, net->arcs * sizeof *list);
+    size_t count = arc_list(net, list);
+    return (const zaq_arc *)at_edge(2, (const uint8_t *)list, count * sizeof *list);
 }

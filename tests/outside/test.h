@@ -1,8 +1,7 @@
 /* What every outside test shares: counting, what was seen, a random source with a printed seed, random houses, step lists and faults. */
 #ifndef TEST_H
 #define TEST_H
-#include "../../include/zaqfinell.h"
-#include "reference.h"
+#include "in_header.h"
 #include <stddef.h>
 #include <stdint.h>
 
@@ -21,10 +20,6 @@ enum call { CHECK, WRITE, READ_ENTRY, READ_TABLE, RUN, ENTRY, ROUTE, PACK, CHECK
 void same_answer(enum call call, uint32_t got, uint32_t want, const char *what);
 /* A distance or mark that a call handed over is counted. */
 void saw_distance(enum call call, unsigned distance);
-/* As the header says it: the distance or mark, the first hop or none, and both in one answer. */
-unsigned header_distance(struct ref_entry e);
-unsigned header_hop(struct ref_entry e);
-uint32_t entry_answer(struct ref_entry e);
 /* The bytes, copied so that they end where memory ends: whoever reads further crashes. A place (0 to 2) holds one copy at a time. */
 const uint8_t *at_edge(unsigned place, const uint8_t *bytes, size_t len);
 /* The network as an arc list that ends where memory ends, in place 2. */
