@@ -15,8 +15,7 @@ use Rattle.method.specs.Room.{keptIf, begins}
 use Rattle.network.specs.Checked.{Checked}
 use Rattle.entries.specs.Read.{stoppedTo}
 use Rattle.route.specs.Route.{route}
-use Rattle.table.specs.File.{one}
-use Rattle.table.specs.File.{nodeFile}
+use Rattle.table.specs.File.{one, nodeFile}
 use Rattle.calls.specs.Answers.{values, entryValues, withRows}
 
 -- the number of nodes

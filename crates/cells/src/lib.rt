@@ -62,6 +62,7 @@ pub fn get(s: &[u16], i: usize, o: usize) -> usize
     s[i * PART + o] as usize
 }
 
+// A number into node i's part; no other part changes.
 pub fn put(s: &mut [u16], i: usize, o: usize, v: usize)
     requires { ⌜ (i < 17) × (o < partSize) × (v ≤ 65535) × (length (now s) ≡ stateSize) ⌝ }
     ensures { λ _. ⌜ Stored (cells (now (s .entry))) i (upd (cells (now (s .entry)) i) o v) (cells (now (s .exit))) ⌝ }
@@ -183,6 +184,7 @@ pub fn zero(s: &mut [u16], i: usize)
     }
 }
 
+// Each arc's sum as it is before any message: a node then chooses without looking at the network.
 pub fn lay_sums(net: &[u8], s: &mut [u16], i: usize)
     requires { ⌜ (i < 17) × (length (now net) ≡ 772) × (length (now s) ≡ stateSize) ⌝ }
     ensures { λ _. ⌜ Stored (cells (now (s .entry))) i (laidOut (now (net .entry)) i (cells (now (s .entry)) i) 17) (cells (now (s .exit))) ⌝ }

@@ -1,11 +1,11 @@
 // What a finished run's array says: who has stopped, and a node's entry for a target.
 ghost use mathlib.Core.Path.{_≡_};
-ghost use Prim.Native.Nat.{_+_, _≤_, _<_};
+ghost use Prim.Native.Nat.{_+_, _<_};
 ghost use lib.ListN.{length};
 ghost use Rattle.method.specs.If.{if_then_else_};
 ghost use Rattle.method.specs.Marks.{distanceOf, hopOf};
-ghost use Rattle.cells.specs.Part.{cells, stateSize, entryCount, stateOf};
-ghost use Rattle.cells.specs.Caches.{Marks};
+ghost use Rattle.cells.specs.Part.{cells, stateSize, stateOf};
+ghost use Rattle.cells.specs.Caches.{Readable};
 ghost use Rattle.entries.specs.Read.{isStopped, stoppedTo, entryOf};
 use cells::*;
 use method::Distance;
@@ -48,7 +48,7 @@ pub fn count_stopped(s: &[u16], n: usize) -> usize
 
 // Node i's distance to y, or the mark in its place.
 pub fn distance(s: &[u16], i: usize, y: usize) -> Distance
-    requires { ⌜ (i < 17) × (y < 17) × Marks (cells (now s) i) × (cells (now s) i entryCount ≤ 16) × (length (now s) ≡ stateSize) ⌝ }
+    requires { ⌜ (i < 17) × (y < 17) × Readable (cells (now s) i) × (length (now s) ≡ stateSize) ⌝ }
     ensures { λ r. ⌜ r .0 ≡ distanceOf (entryOf (stateOf (cells (now (s .entry))) i) y) ⌝ }
 {
     let k = get(s, i, MARKS + y);
@@ -63,7 +63,7 @@ pub fn distance(s: &[u16], i: usize, y: usize) -> Distance
 
 // Node i's first hop to y, 0 for itself only; NO_HOP beside a mark.
 pub fn first_hop(s: &[u16], i: usize, y: usize) -> usize
-    requires { ⌜ (i < 17) × (y < 17) × Marks (cells (now s) i) × (cells (now s) i entryCount ≤ 16) × (length (now s) ≡ stateSize) ⌝ }
+    requires { ⌜ (i < 17) × (y < 17) × Readable (cells (now s) i) × (length (now s) ≡ stateSize) ⌝ }
     ensures { λ r. ⌜ r ≡ hopOf (entryOf (stateOf (cells (now (s .entry))) i) y) ⌝ }
 {
     let k = get(s, i, MARKS + y);

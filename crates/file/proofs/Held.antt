@@ -12,10 +12,9 @@ use Rattle.method.specs.Rules.{Filled}
 use Rattle.network.specs.Layout.{netOf}
 use Rattle.cells.specs.Part.{cells, stateSize, entryCount, entryAt, siteOf}
 use Rattle.entries.specs.Read.{isStopped}
-use Rattle.table.specs.File.{one, fileOf}
-use Rattle.table.specs.File.{headerFor}
+use Rattle.table.specs.File.{one, fileOf, headerFor}
 use Rattle.table.specs.Calls.{outcome, roomAfter}
-use Rattle.writer.specs.Lent.{rows, given}
+use Rattle.writer.specs.Lent.{rows, given, lentFile}
 use Rattle.table.specs.declared.Outcome.{Outcome}
 use Rattle.file.specs.Filing.{behindFirst, heldFile}
 
@@ -53,7 +52,7 @@ module _ (s : List ℕ) (i : ℕ) (lt : i < 17) (size : length s ≡ stateSize) 
 
   -- so the file of these lists is the one that the part holds
   pub lent-file : (g : List ℕ) (a b d : ℕ) → a ≡ 15 → b ≡ 15 → d ≡ 15 → (r : ℕ) → r ≡ cells s i entryCount → r ≤ 16 → (mark : Bool) → mark ≡ isStopped (siteOf (cells s i))
-      → fileOf one (headerFor (netOf g) i) (given (take a (drop (i * 379 + 1 + 74) s)) (take b (drop (i * 379 + 1 + 90) s)) (take d (drop (i * 379 + 1 + 106) s)) (r - 1)) mark
+      → lentFile (headerFor (netOf g) i) (take a (drop (i * 379 + 1 + 74) s)) (take b (drop (i * 379 + 1 + 90) s)) (take d (drop (i * 379 + 1 + 106) s)) (r - 1) mark
       ≡ heldFile g i (cells s i)
   lent-file g a b d ea eb ed r er h mark em =
       rw (ea, eb, ed) (ap₂ (fileOf one (headerFor (netOf g) i)) (given-behind (r - 1) (omega arith) ∙ ap (λ (k : ℕ). behindFirst (cells s i) (k - 1)) er) em)

@@ -21,8 +21,7 @@ use Rattle.network.specs.Layout.{netOf, Laid}
 use Rattle.cells.specs.Part.{Part, entryCount, entryAt, tableFrom, stateOf}
 use Rattle.run.specs.Ran.{Ran}
 use Rattle.entries.proofs.Reading.{ran-records}
-use Rattle.table.specs.File.{one, fileOf}
-use Rattle.table.specs.File.{headerFor, nodeFile}
+use Rattle.table.specs.File.{one, fileOf, headerFor, nodeFile}
 use Rattle.file.specs.Filing.{behindFirst, heldFile}
 
 -- what puts node i's own entry first: it is there once, it alone has distance 0, and distances rise

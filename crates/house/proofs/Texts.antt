@@ -13,9 +13,10 @@ use borrow.Rule.Slice.PartAt.{part-to-end}
 use Rattle.method.specs.Network.{IsNode, Accepted}
 use Rattle.method.specs.Steps.{steps}
 use Rattle.method.proofs.Proved.{laws as method-laws}
-use Rattle.network.specs.Bytes.{refusal, headRefusal}
+use Rattle.network.specs.Bytes.{refusal, earlyRefusal}
 use Rattle.network.specs.Checked.{Checked, fromBytes, OfMethod}
-use Rattle.method.specs.Room.{keptIf, begins}
+use Rattle.method.specs.Room.{begins}
+use Rattle.method.proofs.Room.{written}
 use Rattle.network.proofs.Refused.{none}
 use Rattle.network.proofs.BeforeArcs.{header}
 use Rattle.text.specs.Lines.{houseText, refusedLine}
@@ -24,6 +25,7 @@ use Rattle.text.specs.Room.{Front}
 use Rattle.text.proofs.Laws.{laws as text-laws}
 use Rattle.calls.specs.Answers.{withRows}
 use Rattle.calls.specs.Calls.{nodesOf, entryAfter, tenRefusal, runRefusal, countsAfter, countsRoom, entriesRoom}
+use Rattle.calls.proofs.Asked.{run-accepted}
 use Rattle.outcome.proofs.Placed.{length-rows, rows-stand}
 use Rattle.house.specs.House.{asked, networkBytes, stepBytes, textOf, text}
 
@@ -50,22 +52,22 @@ refused-text net bs (suc r) is ne = ap (λ (q : ℕ). textOf q (net .meant) (ste
 -- bytes that are not refused are three or more
 pub three : (s bs : List ℕ) → runRefusal (fromBytes s) bs ≡ 0 → 3 ≤ length s
 unfolding refusal
-three s bs z = header s (none (headRefusal s) _ (none (refusal s) (tenRefusal (fromBytes s) bs) z .0) .0) .three
+three s bs z = header s (none (earlyRefusal s) _ (none (refusal s) (tenRefusal (fromBytes s) bs) z .0) .0) .three
 
 -- where they are not, it is that of the counts and entries that were handed over
 module _ (net : Checked) (sound : OfMethod net) (bs : List ℕ) (z : runRefusal net bs ≡ 0) where
   accepted : Accepted (net .meant)
-  accepted = sound (none (net .refused) (tenRefusal net bs) z .0)
+  accepted = run-accepted net sound bs z
 
   module _ (room : List ℕ) (size : length room ≡ 512) where
     abbrev rows : List ℕ
     rows = withRows (entryAfter net bs) (nodesOf net) (nodesOf net) room
 
-    written : (room′ : List ℕ) → room′ ≡ entriesRoom net bs room → room′ ≡ rows
-    written room′ e = e ∙ ap (λ (r : ℕ). keptIf r room rows) z
+    has-rows : (room′ : List ℕ) → room′ ≡ entriesRoom net bs room → room′ ≡ rows
+    has-rows room′ e = e ∙ written (runRefusal net bs) room rows z
 
     pub whole-room : (room′ : List ℕ) → room′ ≡ entriesRoom net bs room → length room′ ≡ 512
-    whole-room room′ e = ap length (written room′ e) ∙ length-rows (entryAfter net bs) (nodesOf net) (nodesOf net) room ∙ size
+    whole-room room′ e = ap length (has-rows room′ e) ∙ length-rows (entryAfter net bs) (nodesOf net) (nodesOf net) room ∙ size
 
     -- the entries that stand there are the run's: a known distance is no mark
     same-entry : (i k : ℕ) → IsNode (nodesOf net) i → IsNode (nodesOf net) k → entryAt rows i k ≡ entryAfter net bs i k
@@ -79,7 +81,7 @@ module _ (net : Checked) (sound : OfMethod net) (bs : List ℕ) (z : runRefusal 
     pub handed-text : (n : ℕ) (numbers numbers′ room′ : List ℕ) → n ≡ nodesOf net → numbers′ ≡ countsRoom net bs numbers → room′ ≡ entriesRoom net bs room
         → houseText (getD numbers′ 0 0) (getD numbers′ 1 0) (getD numbers′ 2 0) (getD numbers′ 3 0) n (entryAt room′) ≡ textFor net bs
     handed-text n numbers numbers′ room′ en N R =
-        rw (N ∙ ap (λ (r : ℕ). keptIf r numbers (begins (countsAfter net bs) numbers)) z, written room′ R, en)
+        rw (N ∙ written (runRefusal net bs) numbers (begins (countsAfter net bs) numbers) z, has-rows room′ R, en)
         (text-laws .same-text _ _ _ _ (nodesOf net) _ (entryAfter net bs) same-entry
         ∙ ap (λ (r : ℕ). textOf r (net .meant) (steps bs)) (sym z))
 

@@ -4,7 +4,7 @@ ghost use mathlib.Core.List.{map};
 ghost use Prim.Native.Nat.{_%_, _≤_, _<_};
 ghost use lib.ListN.{length};
 ghost use Rattle.network.specs.Refusal.{asArc, _else_, arcRefusal};
-ghost use Rattle.network.specs.ArcList.{sizeRefusal};
+ghost use Rattle.network.specs.ArcList.{earlyListRefusal};
 ghost use Rattle.network.specs.LaidOut.{headed, withArc};
 ghost use Rattle.network.specs.Marks.{marked};
 ghost use Rattle.list.specs.Given.{given};
@@ -25,8 +25,8 @@ pub struct Listed {
 }
 
 // What is refused of an arc list before its m arcs.
-fn size(n: u8, lmax: u8, m: usize) -> u32
-    ensures { λ r. ⌜ r ≡ sizeRefusal n lmax m ⌝ }
+fn before_arcs(n: u8, lmax: u8, m: usize) -> u32
+    ensures { λ r. ⌜ r ≡ earlyListRefusal n lmax m ⌝ }
 {
     if network::outside(16, n) {
         return 19;
@@ -80,7 +80,7 @@ pub fn refusal(l: Listed) -> u32
 pub fn list(n: u8, lmax: u8, arcs: &[Arc]) -> Listed
     ensures { λ r. ⌜ IsListed n lmax (map given (now (arcs .entry))) r ⌝ }
 {
-    let mut f = size(n, lmax, arcs.len());
+    let mut f = before_arcs(n, lmax, arcs.len());
     let mut laid = begin(n, lmax, arcs.len());
     let mut k: usize = 0;
     while k < arcs.len() {

@@ -1,4 +1,5 @@
 pub mod Numbers
+pub mod Room
 pub mod Chains
 pub mod Sent
 pub mod Choosing

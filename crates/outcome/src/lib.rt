@@ -1,17 +1,17 @@
 // The whole outcome of a run in one call: the counts, and the entries of every node.
 ghost use mathlib.Core.Path.{_≡_};
 ghost use mathlib.Core.List.{[], _∷_};
-ghost use Prim.Native.Nat.{_+_, _≤_, _<_};
+ghost use Prim.Native.Nat.{ℕ, _+_, _≤_, _<_};
 ghost use lib.ListN.{length, set};
 ghost use Rattle.method.specs.Network.{IsNode};
 ghost use Rattle.method.specs.Room.{begins};
 ghost use Rattle.network.specs.Layout.{Laid, fromLayout};
 ghost use Rattle.network.specs.Checked.{fromBytes};
 ghost use Rattle.cells.specs.Part.{cells, stateSize, stateOf};
+ghost use Rattle.cells.specs.Caches.{Readable};
 ghost use Rattle.entries.specs.Read.{entryOf};
 ghost use Rattle.calls.specs.Answers.{withRow, withRows};
 ghost use Rattle.calls.specs.Calls.{runRefusal, countsRoom, entriesRoom};
-ghost use Rattle.outcome.specs.Readable.{Readable};
 use entries::*;
 use list::Listed;
 
@@ -26,7 +26,7 @@ pub fn hand_entry(entries: &mut [u16], place: usize, distance: u16, hop: u16)
 
 // Hands over node i's entries for the targets 1 to n.
 pub fn hand_row(s: &[u16], entries: &mut [u16], n: usize, i: usize)
-    requires { ⌜ (n ≤ 16) × IsNode n i × Readable n (cells (now s)) × (length (now s) ≡ stateSize) × (length (now entries) ≡ 512) ⌝ }
+    requires { ⌜ (n ≤ 16) × IsNode n i × Readable (cells (now s) i) × (length (now s) ≡ stateSize) × (length (now entries) ≡ 512) ⌝ }
     ensures { λ _. ⌜ now (entries .exit) ≡ withRow (entryOf (stateOf (cells (now (s .entry))) i)) i n (now (entries .entry)) ⌝ }
 {
     let mut k: usize = 0;
@@ -44,7 +44,7 @@ pub fn hand_row(s: &[u16], entries: &mut [u16], n: usize, i: usize)
 
 // Hands over the entries of the nodes 1 to n.
 pub fn hand_rows(s: &[u16], entries: &mut [u16], n: usize)
-    requires { ⌜ (n ≤ 16) × Readable n (cells (now s)) × (length (now s) ≡ stateSize) × (length (now entries) ≡ 512) ⌝ }
+    requires { ⌜ (n ≤ 16) × ((j : ℕ) → IsNode n j → Readable (cells (now s) j)) × (length (now s) ≡ stateSize) × (length (now entries) ≡ 512) ⌝ }
     ensures { λ _. ⌜ now (entries .exit) ≡ withRows (λ i. entryOf (stateOf (cells (now (s .entry))) i)) n n (now (entries .entry)) ⌝ }
 {
     let mut i: usize = 0;

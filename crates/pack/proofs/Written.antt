@@ -9,12 +9,14 @@ use native.Mathlib.Nat.{zero-add}
 use lib.ListN.{length, getD, set}
 use lib.Seq.{sets, sets-eq}
 use Rattle.bits.proofs.Bytes.{length-packed}
-use Rattle.method.specs.Network.{Arc, Net}
-use Rattle.network.specs.Refusal.{_else_}
-use Rattle.method.specs.Room.{keptIf, begins}
+use Rattle.method.specs.Network.{Arc}
+use Rattle.method.specs.Room.{begins}
 use Rattle.network.specs.Bytes.{size, netBits}
+use Rattle.network.specs.Checked.{Checked}
 use Rattle.network.specs.Layout.{arcAt, arcsFrom, netOf, Laid}
 use Rattle.network.specs.Fits.{Fits, AllFit}
+use Rattle.network.proofs.Refused.{first, kept}
+use Rattle.pack.specs.Pack.{packAnswer, packRoom}
 use Rattle.pack.specs.Pairs.{halves, pairBytes, netBytes}
 use Rattle.pack.proofs.Pairs.{bytes-in-pairs}
 
@@ -97,17 +99,11 @@ module _ (g : List ℕ) (la : Laid g) where
       bytes-in-pairs (getD g 0 0) (getD g 1 0) (netOf g .arcs) (sizes .1) (sizes .2) (omega (arith, sizes, arc-count)) arcs-fit ∙ rw (ex, ey, arc-count) in
       e ∙ ap (sets room 0) (sym b) ∙ sets-eq s room 0 (omega (arith, sizes, arc-count)) ∙ rw (zero-add (length s))
 
--- where f is refused: what is answered, and what is left in the room
-abbrev pub packedAnswer : ℕ → Net → ℕ
-packedAnswer f net = f else 256 * size (length (net .arcs))
+-- what is refused is answered, and the room stays
+pub packs-nothing : (net : Checked) (room : List ℕ) → (net .refused ≡ 0 → ⊥) → (net .refused ≡ packAnswer net) × (room ≡ packRoom net room)
+packs-nothing net room ne = (sym (first (net .refused) _ ne), sym (kept (net .refused) room _ ne))
 
-abbrev pub packedRoom : ℕ → Net → List ℕ → List ℕ
-packedRoom f net room = keptIf f room (begins (netBytes net) room)
-
-pub packs-nothing : (f : ℕ) (net : Net) (room : List ℕ) → (f ≡ 0 → ⊥) → (f ≡ packedAnswer f net) × (room ≡ packedRoom f net room)
-packs-nothing zero net room ne = absurd (ne refl)
-packs-nothing (suc f) net room ne = (refl, refl)
-
-pub packs-all : (f : ℕ) (net : Net) (room next : List ℕ) (k : ℕ) → f ≡ 0 → k ≡ size (length (net .arcs)) → next ≡ begins (netBytes net) room
-    → (256 * k ≡ packedAnswer f net) × (next ≡ packedRoom f net room)
-packs-all f net room next k z ek e = (rw (z, ek), rw z e)
+-- else the bytes are written, and counted
+pub packs-all : (net : Checked) (room next : List ℕ) (k : ℕ) → net .refused ≡ 0 → k ≡ size (length (net .meant .arcs)) → next ≡ begins (netBytes (net .meant)) room
+    → (256 * k ≡ packAnswer net) × (next ≡ packRoom net room)
+packs-all net room next k z ek e = (rw (z, ek), rw z e)

@@ -1,15 +1,15 @@
 // An arc list that is laid out, made bytes.
 ghost use mathlib.Core.Path.{_≡_};
 ghost use mathlib.Core.List.{[], _∷_};
-ghost use Prim.Native.Nat.{_+_, _*_, _≤_, _<_};
+ghost use Prim.Native.Nat.{_+_, _≤_, _<_};
 ghost use lib.ListN.{length};
 ghost use lib.Seq.{sets};
-ghost use Rattle.network.specs.Refusal.{_else_};
-ghost use Rattle.method.specs.Room.{keptIf, begins};
+ghost use Rattle.method.specs.Room.{begins};
 ghost use Rattle.network.specs.Bytes;
 ghost use Rattle.network.specs.Fits.{Fits, AllFit};
-ghost use Rattle.network.specs.Layout.{arcAt, arcsFrom, netOf, Laid};
+ghost use Rattle.network.specs.Layout.{arcAt, arcsFrom, netOf, fromLayout, Laid};
 ghost use Rattle.list.specs.Given.{given};
+ghost use Rattle.pack.specs.Pack.{packAnswer, packRoom};
 ghost use Rattle.pack.specs.Pairs.{pairBytes, netBytes};
 ghost use Rattle.pack.specs.Pairs;
 use list::Arc;
@@ -86,7 +86,7 @@ fn put_bytes(laid: &[u8; 772], room: &mut [u8]) -> u32
 // Writes the bytes of what is laid out at the room's start, unless it is refused.
 pub fn pack(l: Listed, room: &mut [u8; 363]) -> u32
     requires { ⌜ (l .refused ≡ 0 → Laid (l .laid)) ⌝ }
-    ensures { λ r. ⌜ (r ≡ l .refused else 256 * Bytes.size (length (netOf (l .laid) .arcs))) × (now (room .exit) ≡ keptIf (l .refused) (now (room .entry)) (begins (netBytes (netOf (l .laid))) (now (room .entry)))) ⌝ }
+    ensures { λ r. ⌜ (r ≡ packAnswer (fromLayout (l .refused) (l .laid))) × (now (room .exit) ≡ packRoom (fromLayout (l .refused) (l .laid)) (now (room .entry))) ⌝ }
 {
     if l.refused != 0 {
         return l.refused;

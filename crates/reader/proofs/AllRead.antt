@@ -2,7 +2,7 @@
 -- Assumes nothing.
 use mathlib.Core.Path.{_≡_, refl, _∙_, ap}
 use mathlib.Core.List.{List, _∷_}
-use mathlib.Core.Bool.{Bool, true, false}
+use mathlib.Core.Bool.{Bool}
 use mathlib.Core.Option.{none}
 use Prim.Native.Nat.{ℕ, _+_, _*_, _≤_, _<_}
 use native.Mathlib.Omega.{arith}
@@ -24,7 +24,7 @@ use Rattle.table.specs.declared.Header.{Header}
 use Rattle.reader.specs.declared.Counted.{Counted}
 use Rattle.table.proofs.Passed.{Passed, few-records}
 use Rattle.table.proofs.Walk.{taken-keeps, taken-passed}
-use Rattle.table.proofs.Cut.{ending}
+use Rattle.table.proofs.Cut.{ending, told-whole}
 use Rattle.records.proofs.SoundHeader.{header-sound, reading-is}
 use Rattle.reader.proofs.Listed.{all-outcome, all-room, passed-within}
 
@@ -62,7 +62,7 @@ module _ (s : List ℕ) (h : Header) (d : HasHeader s h) (c : Counted) (ec : c �
   count-lists m e =
       let p : Passed h es = taken-passed one h B in
       let first = taken-first h B (omega (arith, length-bits s, header-sound one _ s (d .sound) .0)) .1 in
-      let q : reading one s ≡ accepted h es m = reading-is s h d ∙ ap (concluded h es) (rw ec at e) ∙ accepts m in
+      let q : reading one s ≡ accepted h es m = reading-is s h d ∙ ap (concluded h es) (rw ec at e) ∙ told-whole h es m in
       rw ec record {
         few = few-records h (d .own) es p;
         stand = omega (arith, first .place, first .stand, length-bits s);
@@ -70,10 +70,6 @@ module _ (s : List ℕ) (h : Header) (d : HasHeader s h) (c : Counted) (ec : c �
         outcome = λ room r e. rw q (e ∙ all-outcome h (d .own) es p m room);
         room = λ room left e. rw q ((rw (← first .records) at e) ∙ all-room h (d .own) es p m room);
       }
-    where
-      accepts : (b : Bool) → concluded h es (ending b) ≡ accepted h es b
-      accepts true = refl
-      accepts false = refl
 
   pub count-refuses : (f : ℕ) → c .ending ≡ Faulty f → reading one s ≡ refused f
   unfolding counted

@@ -1,11 +1,10 @@
 -- The code's answer for a target is the definition's.
 -- Assumes nothing.
 use mathlib.Core.Path.{_≡_, refl}
-use mathlib.Core.Logic.{inl, inr}
-use mathlib.Core.List.{List, _∷_}
+use mathlib.Core.List.{List}
 use mathlib.Core.Bool.{Bool, true, false, cond, _||_}
 use mathlib.Core.Option.{Option, none, some}
-use Prim.Native.Nat.{ℕ, _≤_}
+use Prim.Native.Nat.{ℕ}
 use native.Mathlib.Omega.{arith}
 use lib.Dec.{eqb, ltb}
 use borrow.Author.Tests.{ne-eqb}
@@ -13,7 +12,7 @@ use Rattle.bits.specs.Bits.{bitsOf}
 use Rattle.method.specs.Rules.{Filled}
 use Rattle.method.specs.Entries.{known, find, said}
 use Rattle.method.specs.Marks.{distanceOf, noHop}
-use Rattle.method.proofs.Table.{In, Found, find-ok}
+use Rattle.method.proofs.Table.{Found, find-ok}
 use Rattle.table.specs.File.{one}
 use Rattle.table.specs.Reader.{Taken, taken, phaseOf, concluded, refusal, says, entryFrom, entryRead}
 use Rattle.records.specs.Parts.{HasHeader}
@@ -23,14 +22,9 @@ use Rattle.table.specs.declared.Ending.{Ending}
 use Rattle.table.specs.declared.Header.{Header}
 use Rattle.reader.specs.declared.Walked.{Walked}
 use Rattle.table.specs.declared.Ending.the-variants.{Unfinished, Marked, Faulty}
-use Rattle.table.proofs.Passed.{Passed}
+use Rattle.table.proofs.Passed.{Passed, passed-hop}
 use Rattle.table.proofs.Walk.{taken-passed}
 use Rattle.records.proofs.SoundHeader.{reading-is}
-
--- a record's first hop is not 0
-passed-hop : (h : Header) (es : List Filled) → Passed h es → (e : Filled) → In e es → 1 ≤ e .hop
-passed-hop h (x ∷ es) p e (inl q) = rw q (p .0 .sound .hop .0)
-passed-hop h (x ∷ es) p e (inr m) = passed-hop h es (p .1) e m
 
 answered-is : (t : ℕ) (h : Header) (w : Taken) → Passed h (w .records) → answered (h .own) (h .n) t (walked t w) (w .ending) ≡ answer (entryFrom (concluded h (w .records) (w .ending)) t)
 unfolding walked
@@ -49,7 +43,7 @@ answered-is t h w p = by-ending (w .ending)
     by-phase b false true o f = refl
     by-phase true false false none f = refl
     by-phase false false false none f = refl
-    by-phase b false false (some e) f = rw (ne-eqb (e .hop) 0 (omega (arith, passed-hop h es p e (f .0))))
+    by-phase b false false (some e) f = rw (ne-eqb (e .hop) 0 (omega (arith, passed-hop h es p e (f .0) .0)))
 
     by-ending : (e : Ending) → answered (h .own) (h .n) t (walked t w) e ≡ answer (entryFrom (concluded h es e) t)
     by-ending Unfinished = by-phase false (eqb t 0 || ltb (h .n) t) (eqb t (h .own)) (find t es) (find-ok t es)

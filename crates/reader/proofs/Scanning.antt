@@ -25,7 +25,7 @@ use Rattle.table.specs.declared.Ending.{Ending}
 use Rattle.table.specs.declared.Ending.the-variants.{Unfinished, Faulty}
 use Rattle.table.proofs.Passed.{Passed, few-records}
 use Rattle.table.proofs.Walk.{walk-none, walk-zero, walk-short, walk-record, record-passes}
-use Rattle.reader.proofs.Marks.{marksOf, mark-is, marks-below}
+use Rattle.reader.proofs.Seen.{seenOf, seen-is, seen-below}
 
 -- a whole record stands at bit p: its bits make the number x, from 4096 on
 pub record Stands (s : List ℕ) (p x : ℕ) : Type 0 where
@@ -95,10 +95,10 @@ module _ (s : List ℕ) (p : ℕ) where
           absurd (omega (arith, four-fields (ltb-false (length B) (p + 13) w)))
 
 -- what a walk over the records holds after k of them
-pub record Going (own n lmax : ℕ) (s : List ℕ) (k marks : ℕ) : Type 0 where
+pub record Going (own n lmax : ℕ) (s : List ℕ) (k bits : ℕ) : Type 0 where
   pub passed : Passed (headerOf own n lmax) (firstRecords (bitsOf s) k)
   pub walks : taken one (headerOf own n lmax) (bitsOf s) ≡ walk one (headerOf own n lmax) (length (bitsOf s) - k) (firstRecords (bitsOf s) k) (bitsOf s) (16 + 13 * k)
-  pub marks-are : marks ≡ marksOf (firstRecords (bitsOf s) k)
+  pub bits-are : bits ≡ seenOf (firstRecords (bitsOf s) k)
 
 -- and what it has found of target t
 pub record Found (t : ℕ) (s : List ℕ) (k before distance hop : ℕ) : Type 0 where
@@ -112,10 +112,10 @@ length-first B zero = refl
 length-first B (suc k) = ap suc (length-first B k)
 
 pub going-start : (own n lmax : ℕ) (s : List ℕ) → Going own n lmax s 0 0
-unfolding firstRecords marksOf taken
+unfolding firstRecords seenOf taken
 going-start own n lmax s =
     let e : length (bitsOf s) - 0 ≡ length (bitsOf s) = omega arith in
-    record { passed = tt; walks = rw e; marks-are = refl }
+    record { passed = tt; walks = rw e; bits-are = refl }
 
 pub found-none : (t : ℕ) (s : List ℕ) → Found t s 0 0 0 0
 unfolding firstRecords
@@ -131,7 +131,7 @@ module _ (s : List ℕ) (k : ℕ) (w : Taken) (e : Ending) (ended : w ≡ takes 
   unfolding counted
   counts = rw (ended, length-first (bitsOf s) k)
 
-module _ {own n lmax : ℕ} {s : List ℕ} {k marks : ℕ} (at : IsNode n own) (g : Going own n lmax s k marks) where
+module _ {own n lmax : ℕ} {s : List ℕ} {k bits : ℕ} (at : IsNode n own) (g : Going own n lmax s k bits) where
   abbrev h : Header
   h = headerOf own n lmax
 
@@ -147,10 +147,10 @@ module _ {own n lmax : ℕ} {s : List ℕ} {k marks : ℕ} (at : IsNode n own) (
   pub going-few : k < n
   going-few = omega (arith, few-records h at seen (g .passed), length-first S k)
 
-  pub going-marks : n ≤ 16 → marks < 65536
-  going-marks l =
+  pub going-bits : n ≤ 16 → bits < 65536
+  going-bits l =
       let m : 2 ^ n ≤ 2 ^ 16 = pow-mono {j = 16} l in
-      omega (arith, g .marks-are, marks-below h seen (g .passed))
+      omega (arith, g .bits-are, seen-below h seen (g .passed))
 
   turn : k < length S → taken one h S ≡ walk one h (suc (length S - suc k)) seen S q
   turn l = g .walks ∙ ap (λ (m : ℕ). walk one h m seen S q) (omega arith)
@@ -169,23 +169,23 @@ module _ {own n lmax : ℕ} {s : List ℕ} {k marks : ℕ} (at : IsNode n own) (
     abbrev target : ℕ
     target = x / 256 % 16 + 1
 
-    abbrev via : ℕ
-    via = x / 16 % 16 + 1
+    abbrev firstHop : ℕ
+    firstHop = x / 16 % 16 + 1
 
-    abbrev by : ℕ
-    by = x % 16
+    abbrev difference : ℕ
+    difference = x % 16
 
     there : Stands s q x
     there = stands s q x ex l
 
     abbrev r : ℕ → Filled
-    r before = record { target = target; distance = before + by; hop = via }
+    r before = record { target = target; distance = before + difference; hop = firstHop }
 
     record-is : (before : ℕ) → before ≡ lastDistance seen → recordAt one seen S q ≡ r before
     record-is before e = record-of s q x before seen (there .whole) (there .number) e
 
-    pub found-next : {t before distance hop : ℕ} (d₂ h₂ : ℕ) → Found t s k before distance hop → d₂ ≡ cond (eqb t target) (before + by) distance → h₂ ≡ cond (eqb t target) via hop
-        → Found t s (k + 1) (before + by) d₂ h₂
+    pub found-next : {t before distance hop : ℕ} (d₂ h₂ : ℕ) → Found t s k before distance hop → d₂ ≡ cond (eqb t target) (before + difference) distance → h₂ ≡ cond (eqb t target) firstHop hop
+        → Found t s (k + 1) (before + difference) d₂ h₂
     unfolding firstRecords
     found-next {t} {before} {distance} {hop} d₂ h₂ f ed eh =
         let k1 : k + 1 ≡ suc k = omega arith in
@@ -200,12 +200,12 @@ module _ {own n lmax : ℕ} {s : List ℕ} {k marks : ℕ} (at : IsNode n own) (
         same g v e true = refl
         same g v e false = e
 
-    module _ (er : repeated ≡ eqb (marks / 2 ^ (target - 1) % 2) 1) (eb : bad ≡ wrongFields h repeated (eqb k 0) target via by) where
+    module _ (er : repeated ≡ eqb (bits / 2 ^ (target - 1) % 2) 1) (eb : bad ≡ wrongFields h repeated (eqb k 0) target firstHop difference) where
       wrong-is : wrong h seen (recordAt one seen S q) ≡ bad
       unfolding wrong
       wrong-is =
-          let d : lastDistance seen + by - lastDistance seen ≡ by = omega arith in
-          rw (record-is (lastDistance seen) refl, d, length-first S k, eb, er, g .marks-are, mark-is h seen (g .passed) target (omega arith))
+          let d : lastDistance seen + difference - lastDistance seen ≡ difference = omega arith in
+          rw (record-is (lastDistance seen) refl, d, length-first S k, eb, er, g .bits-are, seen-is h seen (g .passed) target (omega arith))
 
       takes-one : (w : Bool) → bad ≡ w → taken one h S ≡ cond w (takes seen (Faulty 17)) (walk one h (length S - suc k) (r (lastDistance seen) ∷ seen) S (q + 13))
       takes-one w f =
@@ -215,8 +215,8 @@ module _ {own n lmax : ℕ} {s : List ℕ} {k marks : ℕ} (at : IsNode n own) (
       pub out-wrong : bad ≡ true → taken one h S ≡ takes seen (Faulty 17)
       out-wrong f = takes-one true f
 
-      pub going-next : (wt : ℕ) → bad ≡ false → wt ≡ 2 ^ (target - 1) → Going own n lmax s (k + 1) (marks + wt)
-      unfolding firstRecords marksOf
+      pub going-next : (wt : ℕ) → bad ≡ false → wt ≡ 2 ^ (target - 1) → Going own n lmax s (k + 1) (bits + wt)
+      unfolding firstRecords seenOf
       going-next wt f ew =
           let k1 : k + 1 ≡ suc k = omega arith in
           let q1 : q + 13 ≡ 16 + 13 * suc k = omega arith in
@@ -224,14 +224,14 @@ module _ {own n lmax : ℕ} {s : List ℕ} {k marks : ℕ} (at : IsNode n own) (
           rw (k1, ew) record {
             passed = record-passes one h seen S q (g .passed) (wrong-is ∙ f);
             walks = rw e (rw q1 at (takes-one false f));
-            marks-are = rw e (ap (λ (m : ℕ). m + 2 ^ (target - 1)) (g .marks-are));
+            bits-are = rw e (ap (λ (m : ℕ). m + 2 ^ (target - 1)) (g .bits-are));
           }
 
 -- what `scan` holds at bit p, with the record for target t looked for
-pub record Scan (own n lmax t : ℕ) (s : List ℕ) (p marks before distance hop : ℕ) : Type 0 where
+pub record Scan (own n lmax t : ℕ) (s : List ℕ) (p bits before distance hop : ℕ) : Type 0 where
   pub k : ℕ
   pub place : p ≡ 16 + 13 * k
-  pub going : Going own n lmax s k marks
+  pub going : Going own n lmax s k bits
   pub found : Found t s k before distance hop
   pub small : (k < 16) × (before ≤ 15 * k)
 
@@ -239,7 +239,7 @@ pub scan-start : (own n lmax t : ℕ) (s : List ℕ) → Scan own n lmax t s 16 
 scan-start own n lmax t s =
     record { k = 0; place = refl; going = going-start own n lmax s; found = found-none t s; small = (omega arith, omega arith) }
 
-module _ {own n lmax t : ℕ} {s : List ℕ} {p marks before distance hop : ℕ} (at : IsNode n own) (c : Scan own n lmax t s p marks before distance hop) where
+module _ {own n lmax t : ℕ} {s : List ℕ} {p bits before distance hop : ℕ} (at : IsNode n own) (c : Scan own n lmax t s p bits before distance hop) where
   abbrev h₀ : Header
   h₀ = headerOf own n lmax
 
@@ -249,7 +249,7 @@ module _ {own n lmax t : ℕ} {s : List ℕ} {p marks before distance hop : ℕ}
       tells s (c .k) _ e (out-ends at (c .going) x e (ex ∙ ap (standing (bitsOf s)) (c .place)) l (ee ∙ ap (endingAt (bitsOf s)) (c .place))) (c .found)
 
   module _ (x : ℕ) (repeated bad : Bool) (ex : x ≡ standing (bitsOf s) p) (l : 4096 ≤ x)
-      (er : repeated ≡ eqb (marks / 2 ^ (x / 256 % 16 + 1 - 1) % 2) 1)
+      (er : repeated ≡ eqb (bits / 2 ^ (x / 256 % 16 + 1 - 1) % 2) 1)
       (eb : bad ≡ wrongFields h₀ repeated (eqb p 16) (x / 256 % 16 + 1) (x / 16 % 16 + 1) (x % 16)) where
     stands-there : x ≡ standing (bitsOf s) (16 + 13 * c .k)
     stands-there = ex ∙ ap (standing (bitsOf s)) (c .place)
@@ -267,7 +267,7 @@ module _ {own n lmax t : ℕ} {s : List ℕ} {p marks before distance hop : ℕ}
 
     pub scan-next : (wt d₂ h₂ : ℕ) → n ≤ 16 → bad ≡ false → wt ≡ 2 ^ (x / 256 % 16 + 1 - 1)
         → d₂ ≡ cond (eqb t (x / 256 % 16 + 1)) (before + x % 16) distance → h₂ ≡ cond (eqb t (x / 256 % 16 + 1)) (x / 16 % 16 + 1) hop
-        → Scan own n lmax t s (p + 13) (marks + wt) (before + x % 16) d₂ h₂
+        → Scan own n lmax t s (p + 13) (bits + wt) (before + x % 16) d₂ h₂
     scan-next wt d₂ h₂ few f ew ed eh =
         let g = going-next at (c .going) x repeated bad stands-there l er wrong-there wt f ew in
         record {

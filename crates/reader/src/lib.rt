@@ -37,12 +37,12 @@ fn weight(t: u32) -> u32
     bits::power(t as usize - 1)
 }
 
-// Whether target t has its mark.
-fn is_marked(marks: u32, t: u32) -> bool
+// Whether target t is among those seen.
+fn is_seen(seen: u32, t: u32) -> bool
     requires { ⌜ (1 ≤ t) × (t ≤ 16) ⌝ }
-    ensures { λ r. ⌜ r ≡ eqb (marks / 2 ^ (t - 1) % 2) 1 ⌝ }
+    ensures { λ r. ⌜ r ≡ eqb (seen / 2 ^ (t - 1) % 2) 1 ⌝ }
 {
-    (marks >> (t - 1)) % 2 == 1
+    (seen >> (t - 1)) % 2 == 1
 }
 
 // a for the target that is asked for, else b.
@@ -61,7 +61,7 @@ fn scan(file: &[u8], own: u32, n: u32, lmax: u32, t: u32) -> Walked
     ensures { λ r. ⌜ r ≡ walked t (taken one (headerOf own n lmax) (bitsOf (now (file .entry)))) ⌝ }
 {
     let mut p: usize = 16;
-    let mut marks: u32 = 0;
+    let mut seen: u32 = 0;
     let mut before: u32 = 0;
     let mut distance: u16 = 0;
     let mut hop: u16 = 0;
@@ -76,20 +76,29 @@ fn scan(file: &[u8], own: u32, n: u32, lmax: u32, t: u32) -> Walked
             };
         }
         let target = x / 256 % 16 + 1;
-        let via = x / 16 % 16 + 1;
-        let by = x % 16;
-        let repeated = is_marked(marks, target);
-        if records::is_wrong(own, n, lmax, repeated, p == 16, target, via, by) {
+        let first_hop = x / 16 % 16 + 1;
+        let difference = x % 16;
+        let repeated = is_seen(seen, target);
+        if records::is_wrong(
+            own,
+            n,
+            lmax,
+            repeated,
+            p == 16,
+            target,
+            first_hop,
+            difference,
+        ) {
             return Walked {
                 ending: Ending::Faulty(17),
                 distance,
                 hop,
             };
         }
-        marks = marks + weight(target);
-        before = before + by;
+        seen = seen + weight(target);
+        before = before + difference;
         distance = chosen(t, target, before as u16, distance);
-        hop = chosen(t, target, via as u16, hop);
+        hop = chosen(t, target, first_hop as u16, hop);
         p += 13;
     }
 }
@@ -101,7 +110,7 @@ fn count(file: &[u8], own: u32, n: u32, lmax: u32) -> Counted
     ensures { λ r. ⌜ r ≡ counted (taken one (headerOf own n lmax) (bitsOf (now (file .entry)))) ⌝ }
 {
     let mut k: usize = 0;
-    let mut marks: u32 = 0;
+    let mut seen: u32 = 0;
     loop {
         let p = 16 + 13 * k;
         let x = records::record_at(file, p);
@@ -110,14 +119,14 @@ fn count(file: &[u8], own: u32, n: u32, lmax: u32) -> Counted
             return Counted { ending, count: k };
         }
         let y = x / 256 % 16 + 1;
-        let repeated = is_marked(marks, y);
+        let repeated = is_seen(seen, y);
         if records::is_wrong(own, n, lmax, repeated, k == 0, y, x / 16 % 16 + 1, x % 16) {
             return Counted {
                 ending: Ending::Faulty(17),
                 count: k,
             };
         }
-        marks = marks + weight(y);
+        seen = seen + weight(y);
         k += 1;
     }
 }

@@ -1,50 +1,38 @@
 -- The way as the code writes it: hop by hop into the room.
 -- Assumes nothing.
-use mathlib.Core.Path.{_≡_, refl, sym, ap, ap₂, subst, _∙_}
+use mathlib.Core.Path.{_≡_, refl, sym, ap, subst, _∙_}
 use mathlib.Core.Logic.{_≢_}
 use mathlib.Core.Bool.{true, false}
-use mathlib.Core.List.{List, [], _∷_, _++_, append-assoc, append-nil}
-use Prim.Native.Nat.{ℕ, suc, _+_, _≤_, _<_}
+use mathlib.Core.List.{List, _∷_, _++_}
+use Prim.Native.Nat.{ℕ, _+_, _≤_, _<_}
 use native.Mathlib.Omega.{arith}
 use native.Mathlib.Numerals.{add-one}
 use lib.Dec.{eqb}
-use lib.ListN.{length, set, length-set, take, drop, take-append-drop}
-use lib.Seq.{take-suc-set, drop-set-lt}
+use lib.ListN.{length, set, length-set, drop}
+use lib.Seq.{sets, sets-eq}
 use borrow.Author.Tests.{eqb-true, eqb-false}
 use Rattle.method.specs.Steps.{steps}
 use Rattle.method.specs.Entries.{Entry, unknown, unreachable, known}
 use Rattle.method.specs.Marks.{unknownMark, unreachableMark, distanceOf}
 use Rattle.network.specs.Layout.{netOf}
 use Rattle.cells.specs.Part.{Part, stateOf}
-use Rattle.cells.specs.Caches.{Marks}
+use Rattle.cells.specs.Caches.{Readable}
 use Rattle.entries.specs.Read.{entryOf}
 use Rattle.entries.proofs.Reading.{no-mark}
 use Rattle.route.specs.declared.Way.{Way}
 use Rattle.route.specs.declared.Way.the-variants.{Unknown, Unreachable, Nodes}
 use Rattle.route.specs.Route.{distanceTo, hopTo, route}
-use Rattle.route.specs.Asked.{laidIn, Asked, OnWay, answerOf, roomOf}
+use Rattle.route.specs.Asked.{Asked, OnWay, answerOf, roomOf}
 use Rattle.route.proofs.Following.{On, nearer, route-here, route-next, route-few}
-
-laid-none : (room : List ℕ) (at : ℕ) → room ≡ laidIn room at []
-laid-none room at =
-    let e : at + 0 ≡ at = omega arith in
-    sym (ap₂ (λ (a b : List ℕ). a ++ b) (append-nil (take at room)) (ap (λ (k : ℕ). drop k room) e) ∙ take-append-drop at room)
-
-laid-next : (room : List ℕ) (at h : ℕ) (xs : List ℕ) → at < length room → laidIn (set room at h) (at + 1) xs ≡ laidIn room at (h ∷ xs)
-laid-next room at h xs lt =
-    let n : at + 1 + length xs ≡ at + suc (length xs) = omega arith in
-    ap₂ (λ (a b : List ℕ). a ++ xs ++ b)
-    (ap (λ (k : ℕ). take k (set room at h)) (add-one at) ∙ take-suc-set room at h lt)
-    (drop-set-lt (at + 1 + length xs) room at h (omega arith) ∙ ap (λ (k : ℕ). drop k room) n)
-    ∙ ap (λ (a : List ℕ). a ++ drop (at + suc (length xs)) room) (append-assoc (take at room) (h ∷ []) xs)
 
 -- what reading asks for
 module _ (m : ℕ → Part) (i y : ℕ) (q : Asked m i y) where
-  pub i-low : (i < 17) × (y < 17)
-  i-low = omega (arith, q .node, q .target, q .accepted .sizes .nodes .1)
-
-  pub readable : Marks (m i) × (m i 2 ≤ 16)
-  readable = (q .ran .marks i (q .node), q .ran .few i (q .node))
+  pub readable : (i < 17) × (y < 17) × Readable (m i)
+  readable = (
+    omega (arith, q .node, q .accepted .sizes .nodes .1),
+    omega (arith, q .target, q .accepted .sizes .nodes .1),
+    q .ran .readable i (q .node),
+  )
 
   -- the marks tell what kind of entry it is
   abbrev e : Entry
@@ -89,18 +77,20 @@ module _ (m : ℕ → Part) (i y : ℕ) (w : OnWay m i y) where
   fits =
       omega (arith, route-few (netOf (w .asked .net)) (w .asked .accepted) (steps (w .asked .bytes)) (stateOf m) (w .asked .ran .state) y i on, w .asked .accepted .sizes .nodes .1)
 
-  pub filled-answers : (room room′ : List ℕ) (r : ℕ) → r ≡ 0 + length (route (stateOf m) y i) → room′ ≡ laidIn room 0 (route (stateOf m) y i)
+  pub filled-answers : (room room′ : List ℕ) (r : ℕ) → 16 ≤ length room → r ≡ 0 + length (route (stateOf m) y i) → room′ ≡ sets room 0 (route (stateOf m) y i)
       → (Nodes r ≡ answerOf (entryOf (stateOf m i) y) (route (stateOf m) y i)) × (room′ ≡ roomOf (entryOf (stateOf m i) y) (route (stateOf m) y i) room)
-  filled-answers room room′ r er e = (
-    ap Nodes (er ∙ omega arith) ∙ sym (ap (λ (x : Entry). answerOf x (route (stateOf m) y i)) (w .filled)),
-    e ∙ sym (ap (λ (x : Entry). roomOf x (route (stateOf m) y i) room) (w .filled)),
-  )
+  filled-answers room room′ r wide er e =
+      let xs = route (stateOf m) y i in
+      let n : 0 + length xs ≡ length xs = omega arith in (
+        ap Nodes (er ∙ n) ∙ sym (ap (λ (x : Entry). answerOf x xs) (w .filled)),
+        e ∙ sets-eq xs room 0 (omega (arith, fits)) ∙ ap (λ (k : ℕ). xs ++ drop k room) n ∙ sym (ap (λ (x : Entry). roomOf x xs room) (w .filled)),
+      )
 
   -- at the target
-  pub arrives : i ≡ y → (at : ℕ) (room : List ℕ) → (at ≡ at + length (route (stateOf m) y i)) × (room ≡ laidIn room at (route (stateOf m) y i))
+  pub arrives : i ≡ y → (at : ℕ) (room : List ℕ) → (at ≡ at + length (route (stateOf m) y i)) × (room ≡ sets room at (route (stateOf m) y i))
   arrives z at room =
       let n = route-here (netOf (w .asked .net)) (w .asked .accepted) (steps (w .asked .bytes)) (stateOf m) (w .asked .ran .state) y i z in
-      (omega (arith, ap length n), laid-none room at ∙ ap (laidIn room at) (sym n))
+      (omega (arith, ap length n), ap (sets room at) (sym n))
 
   -- one hop, to h
   module _ (ne : i ≢ y) (h : ℕ) (eh : h ≡ hopTo (stateOf m) y i) where
@@ -137,7 +127,7 @@ module _ (m : ℕ → Part) (i y : ℕ) (w : OnWay m i y) where
       pub room-left : at + 1 + length (route (stateOf m) y h) ≤ length (set room at h)
       room-left = omega (arith, ap length route-is, length-set room at h)
 
-      pub written : (r : ℕ) (room′ : List ℕ) → r ≡ at + 1 + length (route (stateOf m) y h) → room′ ≡ laidIn (set room at h) (at + 1) (route (stateOf m) y h)
-          → (r ≡ at + length (route (stateOf m) y i)) × (room′ ≡ laidIn room at (route (stateOf m) y i))
+      pub written : (r : ℕ) (room′ : List ℕ) → r ≡ at + 1 + length (route (stateOf m) y h) → room′ ≡ sets (set room at h) (at + 1) (route (stateOf m) y h)
+          → (r ≡ at + length (route (stateOf m) y i)) × (room′ ≡ sets room at (route (stateOf m) y i))
       written r room′ er e =
-          (omega (arith, ap length route-is), e ∙ laid-next room at h (route (stateOf m) y h) inside ∙ ap (laidIn room at) (sym route-is))
+          (omega (arith, ap length route-is), e ∙ ap (λ (k : ℕ). sets (set room at h) k (route (stateOf m) y h)) (add-one at) ∙ ap (sets room at) (sym route-is))

@@ -2,17 +2,18 @@
 ghost use mathlib.Core.Path.{_≡_};
 ghost use Prim.Native.Nat.{_+_, _≤_};
 ghost use lib.ListN.{length};
+ghost use lib.Seq.{sets};
 ghost use Rattle.cells.specs.Part.{cells, stateSize, stateOf};
 ghost use Rattle.entries.specs.Read.{entryOf};
 ghost use Rattle.route.specs.Route.{route};
-ghost use Rattle.route.specs.Asked.{laidIn, Asked, OnWay, answerOf, roomOf};
+ghost use Rattle.route.specs.Asked.{Asked, OnWay, answerOf, roomOf};
 use entries::*;
 
 // From node i on, the nodes on the way to y are written from place `at` on; the next free place. The distance falls at each call.
 pub fn follow(s: &[u16], room: &mut [u8], at: usize, i: usize, y: usize) -> usize
     requires { ⌜ OnWay (cells (now s)) i y × (at + length (route (stateOf (cells (now s))) y i) ≤ length (now room)) × (length (now s) ≡ stateSize) ⌝ }
     ensures { λ r. ⌜ (r ≡ at + length (route (stateOf (cells (now (s .entry)))) y i))
-        × (now (room .exit) ≡ laidIn (now (room .entry)) at (route (stateOf (cells (now (s .entry)))) y i)) ⌝ }
+        × (now (room .exit) ≡ sets (now (room .entry)) at (route (stateOf (cells (now (s .entry)))) y i)) ⌝ }
 {
     if i == y {
         return at;

@@ -83,8 +83,7 @@ all-done g bs k m c la e so =
       counted =
           counts-are c (plus c none) (omega arith) (omega arith) (omega arith)
           ∙ sym (ap (λ (x : List ℕ). plus c (countsFrom (netOf g) (stateOf m) (steps x))) l) ∙ so .counted;
-      marks = λ j at. so .rest .caches j (i-low g la m (so .rest) j at) .marks;
-      few = table-low g la m (so .rest);
+      readable = λ j at. record { marks = so .rest .caches j (i-low g la m (so .rest) j at) .marks; few = table-low g la m (so .rest) j at };
     }
 
 -- the code's counts

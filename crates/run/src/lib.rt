@@ -88,6 +88,7 @@ pub struct Counts {
     pub unknown: usize,
 }
 
+// One step more of its kind: so the three add up to the number of steps.
 pub fn tally(c: Counts, k: Kind) -> Counts
     requires { ⌜ (c .taken < 9223372036854775808) × (c .idle < 9223372036854775808) × (c .unknown < 9223372036854775808) ⌝ }
     ensures { λ r. ⌜ tallied (r .taken) (r .idle) (r .unknown) ≡ counted (kindOf k) (tallied (c .taken) (c .idle) (c .unknown)) ⌝ }

@@ -14,7 +14,7 @@ use Rattle.method.specs.Rules.{Filled}
 use Rattle.method.specs.Entries.{lastDistance, Sound, AllSound}
 use Rattle.method.specs.Distinct.{Among}
 use Rattle.method.proofs.Numbers.{few}
-use Rattle.method.proofs.Table.{Has, Once, targets, targets-length, has-false}
+use Rattle.method.proofs.Table.{In, Has, Once, targets, targets-length, has-false}
 use Rattle.table.specs.declared.Header.{Header}
 use Rattle.table.specs.Reader.{wrong, wrongFields}
 
@@ -102,6 +102,10 @@ passed-once h (e ∷ es) p = (has-false (e .target) es (p .0 .sound .new), passe
 pub passed-nodes : (h : Header) (es : List Filled) → Passed h es → (y : ℕ) → Has y es → IsNode (h .n) y × (y ≢ h .own)
 passed-nodes h (e ∷ es) p y (inl q) = rw q (p .0 .sound .target, p .0 .sound .other)
 passed-nodes h (e ∷ es) p y (inr m) = passed-nodes h es (p .1) y m
+
+pub passed-hop : (h : Header) (es : List Filled) → Passed h es → (e : Filled) → In e es → IsNode (h .n) (e .hop)
+passed-hop h (x ∷ es) p e (inl q) = rw q (p .0 .sound .hop)
+passed-hop h (x ∷ es) p e (inr m) = passed-hop h es (p .1) e m
 
 pub few-records : (h : Header) → IsNode (h .n) (h .own) → (es : List Filled) → Passed h es → length es < h .n
 few-records h own es p =

@@ -1,9 +1,8 @@
 -- How large what is read from a file can be: a first hop is a node's number or the mark beside no hop, and a file has at most 16 entries.
 -- Assumes nothing.
 use mathlib.Core.Path.{_≡_, refl, subst}
-use mathlib.Core.Logic.{inl, inr}
 use mathlib.Core.Bool.{Bool, true, false, cond, _||_}
-use mathlib.Core.List.{List, _∷_}
+use mathlib.Core.List.{List}
 use mathlib.Core.Option.{Option, none, some}
 use Prim.Native.Nat.{ℕ, zero, suc, _*_, _≤_, _<_}
 use native.Mathlib.Omega.{arith}
@@ -14,17 +13,14 @@ use Rattle.bits.proofs.Bytes.{field-below}
 use Rattle.method.specs.Rules.{Filled}
 use Rattle.method.specs.Entries.{Entry, known, find, said}
 use Rattle.method.specs.Marks.{hopOf}
-use Rattle.method.proofs.Table.{In, Found, find-ok}
+use Rattle.method.proofs.Table.{Found, find-ok}
 use Rattle.table.specs.File.{one}
-use Rattle.table.specs.declared.Header.{Header}
-use Rattle.table.specs.Reader.{headerAt, headerFault, taken, concluded, Reading, refused, accepted, readingBy, reading, phaseOf, entryIn, Read, refusal, says, entryFrom, entryRead}
+use Rattle.table.specs.Reader.{headerAt, Reading, refused, accepted, reading, phaseOf, entryIn, Read, refusal, says, entryFrom, entryRead}
 use Rattle.table.specs.Calls.{entryNumbers, entriesOutcome}
-use Rattle.table.specs.declared.Ending.{Ending}
-use Rattle.table.specs.declared.Ending.the-variants.{Unfinished, Marked, Faulty}
 use Rattle.table.specs.declared.Outcome.{Outcome}
 use Rattle.table.specs.declared.Outcome.the-variants.{Written, Refused}
-use Rattle.table.proofs.Passed.{Passed}
-use Rattle.table.proofs.Walk.{taken-passed}
+use Rattle.table.proofs.Passed.{Passed, passed-hop}
+use Rattle.table.proofs.Walk.{taken-passed, by-reading}
 
 -- an accepted file has at most 16 nodes, and its records passed
 abbrev Sound : Reading → Type 0
@@ -32,29 +28,13 @@ Sound (refused r) = Unit {0}
 Sound (accepted h es mark) = (h .n ≤ 16) × Passed h es
 
 reading-sound : (s : List ℕ) → Sound (reading one s)
-unfolding reading headerAt
-reading-sound s = go (headerFault one h s)
-  where
-    h : Header
-    h = headerAt one (bitsOf s)
-
-    told-sound : (e : Ending) → Sound (concluded h (taken one h (bitsOf s) .records) e)
-    told-sound Unfinished = (omega (arith, field-below s 8 4), taken-passed one h (bitsOf s))
-    told-sound Marked = (omega (arith, field-below s 8 4), taken-passed one h (bitsOf s))
-    told-sound (Faulty r) = tt
-
-    go : (r : ℕ) → Sound (readingBy one h (bitsOf s) r)
-    go zero = told-sound (taken one h (bitsOf s) .ending)
-    go (suc r) = tt
+unfolding headerAt
+reading-sound s = by-reading one s Sound (λ r. tt) (λ m. (omega (arith, field-below s 8 4), taken-passed one (headerAt one (bitsOf s)) (bitsOf s)))
 
 -- a first hop is below 256
 abbrev HopSmall : Read → Type 0
 HopSmall (refusal r) = Unit {0}
 HopSmall (says e) = hopOf e < 256
-
-passed-hop : (h : Header) (es : List Filled) → Passed h es → (e : Filled) → In e es → e .hop ≤ h .n
-passed-hop h (x ∷ es) p e (inl q) = rw q (p .0 .sound .hop .1)
-passed-hop h (x ∷ es) p e (inr m) = passed-hop h es (p .1) e m
 
 pub hop-small : (s : List ℕ) (y : ℕ) (e : Entry) → entryRead one s y ≡ says e → hopOf e < 256
 hop-small s y e is = subst HopSmall is (go (reading one s) (reading-sound s))
@@ -68,7 +48,7 @@ hop-small s y e is = subst HopSmall is (go (reading one s) (reading-sound s))
         by false true mark o f = omega arith
         by false false true none f = omega arith
         by false false false none f = omega arith
-        by false false mark (some e) f = omega (arith, passed-hop h es (so .1) e (f .0), so .0)
+        by false false mark (some e) f = omega (arith, passed-hop h es (so .1) e (f .0) .1, so .0)
 
 -- all entries are two numbers for each target
 pub length-numbers : (g : ℕ → Entry) (n : ℕ) → length (entryNumbers g n) ≡ 2 * n

@@ -1,4 +1,4 @@
--- One turn of the reader, for each way that it can go; and whatever it takes has passed refusal 17.
+-- One turn of the reader, for each way that it can go; whatever it takes has passed refusal 17; and what a reading can be.
 -- Assumes nothing.
 use mathlib.Core.Path.{_≡_, refl}
 use mathlib.Core.List.{List, [], _∷_}
@@ -8,12 +8,13 @@ use native.Mathlib.Omega.{arith}
 use lib.ListN.{length}
 use lib.Dec.{ltb, leb, eqb}
 use borrow.Author.Tests.{lt-ltb, le-ltb, lt-leb, le-leb, eq-eqb, ne-eqb, ltb-false}
-use Rattle.bits.specs.Bits.{field}
+use Rattle.bits.specs.Bits.{bitsOf, field}
 use Rattle.method.specs.Rules.{Filled}
 use Rattle.table.specs.File.{Form, headerSize, recordSize}
 use Rattle.table.specs.declared.Header.{Header}
-use Rattle.table.specs.Reader.{Taken, takes, walk, taken, recordAt, wrong, afterZero}
-use Rattle.table.specs.declared.Ending.the-variants.{Unfinished, Faulty}
+use Rattle.table.specs.Reader.{Taken, takes, walk, taken, recordAt, wrong, afterZero, headerAt, headerFault, concluded, Reading, refused, accepted, readingBy, reading}
+use Rattle.table.specs.declared.Ending.{Ending}
+use Rattle.table.specs.declared.Ending.the-variants.{Unfinished, Marked, Faulty}
 use Rattle.table.proofs.Passed.{Passed, goes-on}
 
 module _ (f : Form) (h : Header) (t : ℕ) (seen : List Filled) (B : List ℕ) (p : ℕ) where
@@ -81,3 +82,21 @@ record-passes f h seen B p s w = (goes-on h seen (recordAt f seen B p) (omega ar
 
 pub taken-passed : (f : Form) (h : Header) (B : List ℕ) → Passed h (taken f h B .records)
 taken-passed f h B = taken-keeps f h B (λ seen p. Passed h seen) (λ seen p s l w. record-passes f h seen B p s w) tt .1
+
+-- a reading is a refusal, or the records taken, with the end mark or without it
+pub by-reading : (f : Form) (s : List ℕ) (P : Reading → Type 0) → ((r : ℕ) → P (refused r))
+    → ((m : Bool) → P (accepted (headerAt f (bitsOf s)) (taken f (headerAt f (bitsOf s)) (bitsOf s) .records) m)) → P (reading f s)
+unfolding reading
+by-reading f s P fails holds = go (headerFault f h s)
+  where
+    h : Header
+    h = headerAt f (bitsOf s)
+
+    told : (e : Ending) → P (concluded h (taken f h (bitsOf s) .records) e)
+    told Unfinished = holds false
+    told Marked = holds true
+    told (Faulty r) = fails r
+
+    go : (r : ℕ) → P (readingBy f h (bitsOf s) r)
+    go zero = told (taken f h (bitsOf s) .ending)
+    go (suc r) = fails (suc r)

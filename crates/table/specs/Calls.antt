@@ -10,8 +10,7 @@ use Rattle.method.specs.Entries.{Entry}
 use Rattle.method.specs.Marks.{distanceOf, hopOf}
 use Rattle.table.specs.Reader.{Reading, refused, accepted, entryIn}
 use Rattle.table.specs.declared.Outcome.{Outcome}
-use Rattle.table.specs.declared.Outcome.the-variants.{Written}
-use Rattle.table.specs.declared.Outcome.the-variants.{Refused as RefusedRoom}
+use Rattle.table.specs.declared.Outcome.the-variants.{Written, Refused as RefusedRoom}
 
 -- numbers are written from a room's start on: 13 where they are more than the room has
 abbrev pub outcome : List ℕ → List ℕ → Outcome

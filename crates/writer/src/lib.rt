@@ -5,10 +5,10 @@ ghost use Prim.Native.Nat.{_+_, _-_, _*_, _/_, _%_, _≤_, _<_, min};
 ghost use mathlib.Core.List.{_++_};
 ghost use lib.ListN.{length, take};
 ghost use Rattle.bits.specs.Bits.{bitsOf};
-ghost use Rattle.table.specs.File.{one, fileOf, headerOf};
+ghost use Rattle.table.specs.File.{one, headerOf};
 ghost use Rattle.table.specs.Calls.{outcome, roomAfter};
 ghost use Rattle.table.specs.Size.{bytesFor};
-ghost use Rattle.writer.specs.Lent.{rows, given};
+ghost use Rattle.writer.specs.Lent.{rows, lentFile};
 ghost use Rattle.writer.specs.Code.{joined, flushed, Pending, recordsBits, finished};
 
 // A record's number in a type that holds what is made of it.
@@ -123,7 +123,7 @@ pub fn write_file(
     stopped: bool,
     room: &mut [u8],
 ) -> Outcome
-    ensures { λ r. ⌜ (r ≡ outcome (fileOf one (headerOf own n lmax) (given (now (targets .entry)) (now (distances .entry)) (now (hops .entry)) count) stopped) (now (room .entry))) × (now (room .exit) ≡ roomAfter (fileOf one (headerOf own n lmax) (given (now (targets .entry)) (now (distances .entry)) (now (hops .entry)) count) stopped) (now (room .entry))) ⌝ }
+    ensures { λ r. ⌜ (r ≡ outcome (lentFile (headerOf own n lmax) (now (targets .entry)) (now (distances .entry)) (now (hops .entry)) count stopped) (now (room .entry))) × (now (room .exit) ≡ roomAfter (lentFile (headerOf own n lmax) (now (targets .entry)) (now (distances .entry)) (now (hops .entry)) count stopped) (now (room .entry))) ⌝ }
 {
     let many = least(
         least(count as usize, targets.len()),

@@ -7,10 +7,10 @@ use mathlib.Core.Bool.{Bool, true, false, true≢false}
 use mathlib.Core.List.{List, [], _∷_, _++_, append-nil, map-append}
 use Prim.Native.Nat.{ℕ, zero, suc, _+_, _*_, _≤_, _<_}
 use native.Mathlib.Omega.{arith}
-use lib.Dec.{ltb, eqb}
+use lib.Dec.{ltb}
 use lib.ListN.{length, getElem?}
 use lib.Seq.{append-snoc}
-use borrow.Author.Tests.{ltb-true, eqb-true, eqb-false, eq-eqb}
+use borrow.Author.Tests.{ltb-true, eq-eqb}
 use Rattle.bits.specs.Bits.{Bytes}
 use Rattle.bits.proofs.Below.{below-append, below-replicate}
 use Rattle.method.specs.If.{if_then_else_}
@@ -19,6 +19,7 @@ use Rattle.method.specs.Rules.{Phase, unstarted, started, stopped}
 use Rattle.method.specs.Work.{Site, became, work, begun}
 use Rattle.method.specs.Steps.{State, sents, Step, start, deliver, byteStep, steps, Named, node, arc, nothing, arcNamed, names, taken, starting, carriedOut, step, runFrom, run}
 use Rattle.method.specs.Entries.{hasStopped}
+use Rattle.method.proofs.Numbers.{last-or-before}
 use Rattle.method.proofs.Turns.{stage}
 use Rattle.method.proofs.Working.{work-ok}
 use Rattle.method.proofs.Runs.{Inv, Onward, begun-site, true-lists, step-ok, run-ok, run-append}
@@ -78,16 +79,14 @@ module _ (st st′ : State) (on : Onward st st′) where
 
   stages-lt : (k i : ℕ) → IsNode k i → stage (st i .node .phase) < stage (st′ i .node .phase) → stages st k < stages st′ k
   stages-lt zero i at lt = absurd (omega arith)
-  stages-lt (suc k) i at lt = go (eqb i (suc k)) refl (λ m. stages-lt k i m lt)
+  stages-lt (suc k) i at lt = go (last-or-before k i at) (λ m. stages-lt k i m lt)
     where
-      go : (t : Bool) → eqb i (suc k) ≡ t → (IsNode k i → stages st k < stages st′ k) → stages st (suc k) < stages st′ (suc k)
-      go true e rec =
+      go : (i ≡ suc k) ⊎ IsNode k i → (IsNode k i → stages st k < stages st′ k) → stages st (suc k) < stages st′ (suc k)
+      go (inl e) rec =
           let now : stage (st (suc k) .node .phase) < stage (st′ (suc k) .node .phase) =
-          subst (λ (m : ℕ). stage (st m .node .phase) < stage (st′ m .node .phase)) (eqb-true i (suc k) e) lt in
+          subst (λ (m : ℕ). stage (st m .node .phase) < stage (st′ m .node .phase)) e lt in
           omega (arith, stages-le k)
-      go false e rec =
-          let ne = eqb-false i (suc k) e in
-          omega (arith, on (suc k) .node .stage-le, rec (omega arith, omega arith))
+      go (inr there) rec = omega (arith, on (suc k) .node .stage-le, rec there)
 
   handed-le : (ar : List Arc) → handedOver st ar ≤ handedOver st′ ar
   handed-le [] = omega arith

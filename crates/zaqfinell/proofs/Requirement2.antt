@@ -1,16 +1,15 @@
 -- Requirement 2 holds.
 -- Assumes nothing.
 use mathlib.Core.Path.{_≡_, refl, sym, ap, subst, _∙_}
-use mathlib.Core.Logic.{⊎-elim, _≢_}
+use mathlib.Core.Logic.{_⊎_, inl, inr, ⊎-elim, _≢_}
 use mathlib.Core.Bool.{Bool, true, false, true≢false}
 use mathlib.Core.Option.{Option, none, some}
 use mathlib.Core.List.{List, [], _∷_, _++_, map-append}
 use Prim.Native.Nat.{ℕ, zero, suc, _+_, _≤_, _<_}
 use native.Mathlib.Omega.{arith}
-use lib.ListN.{length, take, drop, length-map}
-use lib.Seq.{take-at}
-use lib.Dec.{ltb, eqb}
-use borrow.Author.Tests.{ltb-true, eqb-true, eqb-false}
+use lib.ListN.{length, take, length-map}
+use lib.Dec.{ltb}
+use borrow.Author.Tests.{ltb-true}
 use Rattle.method.specs.If.{if_then_else_}
 use Rattle.method.specs.Network.{Arc, Net, house, IsNode}
 use Rattle.method.specs.Rules.{Filled, Phase, unstarted, started, stopped}
@@ -26,7 +25,9 @@ use Rattle.network.specs.ArcList.{listRefusal}
 use Rattle.network.specs.Checked.{Checked, fromBytes, fromList, OfMethod}
 use Rattle.pack.specs.Pack.{packRoom}
 use Rattle.network.proofs.Refused.{inside}
-use Rattle.method.specs.Room.{keptIf, begins}
+use Rattle.method.specs.Room.{begins}
+use Rattle.method.proofs.Numbers.{last-or-before}
+use Rattle.method.proofs.Room.{written, begins-read}
 use Rattle.network.proofs.Laws.{checks}
 use Rattle.entries.proofs.Reading.{stopped-le}
 use Rattle.entries.specs.Read.{isStopped, stoppedTo}
@@ -37,12 +38,13 @@ use Rattle.route.specs.Route.{route}
 use Rattle.route.specs.Laws.{Over, lastOf}
 use Rattle.route.proofs.Laws.{laws as route-laws}
 use Rattle.calls.proofs.Ten.{never-ten}
+use Rattle.calls.proofs.Asked.{run-accepted, Asked, asked}
 use Rattle.calls.specs.Answers.{readAnswer}
 use Rattle.calls.specs.Calls.{nodesOf, stateAfter, entryAfter, countsOf, stoppedOf, tenRefusal, runRefusal, entryRefusal, entryAnswer, passed, nodesPassed, routeRoom, isUnstarted, fileAfter, writeRefusal, writeRoom}
 use Rattle.zaqfinell.specs.Requirement2.{IsSo, Way, RightTables, Requirement2}
 use Rattle.zaqfinell.proofs.Small.{early-bytes, early-list}
 use Rattle.zaqfinell.proofs.Ending.{all-or-one, ends}
-use Rattle.zaqfinell.proofs.Asked.{Asked, asked, answered, run-accepted, wrote, beside}
+use Rattle.zaqfinell.proofs.Asked.{answered, wrote, beside}
 
 -- a node that counts as stopped has stopped
 at-end : (ph : Phase) → hasStopped ph ≡ true → ph ≡ stopped
@@ -53,15 +55,14 @@ at-end stopped e = refl
 -- where as many have stopped as there are, each has
 all-stopped : (st : State) (k : ℕ) → stoppedTo st k ≡ k → (j : ℕ) → IsNode k j → isStopped (st j) ≡ true
 all-stopped st zero e j at = absurd (omega arith)
-all-stopped st (suc k) e j at = go (isStopped (st (suc k))) refl (eqb j (suc k)) refl (λ f. all-stopped st k f j)
+all-stopped st (suc k) e j at = go (isStopped (st (suc k))) refl (last-or-before k j at) (λ f. all-stopped st k f j)
   where
-    go : (t : Bool) → isStopped (st (suc k)) ≡ t → (u : Bool) → eqb j (suc k) ≡ u → (stoppedTo st k ≡ k → IsNode k j → isStopped (st j) ≡ true) → isStopped (st j) ≡ true
-    go true is true f rec = ap (λ (m : ℕ). isStopped (st m)) (eqb-true j (suc k) f) ∙ is
-    go true is false f rec =
+    go : (t : Bool) → isStopped (st (suc k)) ≡ t → (j ≡ suc k) ⊎ IsNode k j → (stoppedTo st k ≡ k → IsNode k j → isStopped (st j) ≡ true) → isStopped (st j) ≡ true
+    go true is (inl f) rec = ap (λ (m : ℕ). isStopped (st m)) f ∙ is
+    go true is (inr there) rec =
         let sum : 1 + stoppedTo st k ≡ suc k = ap (λ (t : Bool). (if t then 1 else 0) + stoppedTo st k) (sym is) ∙ e in
-        let ne = eqb-false j (suc k) f in
-        rec (omega arith) (omega arith, omega arith)
-    go false is u f rec =
+        rec (omega arith) there
+    go false is w rec =
         let sum : 0 + stoppedTo st k ≡ suc k = ap (λ (t : Bool). (if t then 1 else 0) + stoppedTo st k) (sym is) ∙ e in
         let le = stopped-le st k in
         absurd (omega arith)
@@ -129,7 +130,6 @@ module _ (net : Checked) (sound : OfMethod net) (not-13 : net .refused ≢ 13) w
             ∙ ap (λ k. counted k (countsOf net bs) .taken) (s .2),
       )
 
-  -- the route
   -- where an entry is known the nodes passed are the route
   are-route : (bs : List ℕ) (i y d h : ℕ) → entryAfter net bs i y ≡ known d h → nodesPassed net bs i y ≡ route (stateAfter net bs) y i
   are-route bs i y d h is = ap (λ (x : Entry). passed x (route (stateAfter net bs) y i)) is
@@ -151,15 +151,15 @@ module _ (net : Checked) (sound : OfMethod net) (not-13 : net .refused ≢ 13) w
   route-room : (bs : List ℕ) (i y : ℕ) (room : List ℕ) → entryRefusal net bs i y ≡ 0
       → take (length (nodesPassed net bs i y)) (routeRoom net bs i y room) ≡ nodesPassed net bs i y
   route-room bs i y room e =
-      ap (λ (r : ℕ). take (length (nodesPassed net bs i y)) (keptIf r room (begins (nodesPassed net bs i y) room))) e
-      ∙ take-at (nodesPassed net bs i y) (drop (length (nodesPassed net bs i y)) room) (length (nodesPassed net bs i y)) refl
+      ap (take (length (nodesPassed net bs i y))) (written (entryRefusal net bs i y) room (begins (nodesPassed net bs i y) room) e)
+      ∙ begins-read (nodesPassed net bs i y) room
 
   -- the file in the room
-  written : (bs : List ℕ) (i : ℕ) (room : List ℕ) → writeRefusal net bs i (length room) ≡ 0
+  file-room : (bs : List ℕ) (i : ℕ) (room : List ℕ) → writeRefusal net bs i (length room) ≡ 0
       → take (length (fileAfter net bs i)) (writeRoom net bs i room) ≡ fileAfter net bs i
-  written bs i room e =
-      ap (λ (r : ℕ). take (length (fileAfter net bs i)) (keptIf r room (begins (fileAfter net bs i) room))) e
-      ∙ take-at (fileAfter net bs i) (drop (length (fileAfter net bs i)) room) (length (fileAfter net bs i)) refl
+  file-room bs i room e =
+      ap (take (length (fileAfter net bs i))) (written (writeRefusal net bs i (length room)) room (begins (fileAfter net bs i) room) e)
+      ∙ begins-read (fileAfter net bs i) room
 
   -- 27 bytes are enough
   fits : (bs : List ℕ) (i : ℕ) → writeRefusal net bs i 27 ≢ 13
@@ -208,17 +208,19 @@ module _ (net : Checked) (sound : OfMethod net) (not-13 : net .refused ≢ 13) w
         total = λ bs. method-laws (net .meant) .g-total (steps bs) ∙ length-map bs byteStep;
         way = way;
         route-room = route-room;
-        written = written;
+        written = file-room;
         fits = fits;
         same = same;
       }
 
 -- the bytes of an arc list, in the room
 both-entries : (n lmax : ℕ) (ar : List Arc) (room : List ℕ) → listRefusal n lmax ar ≡ 0
-    → (refusal (take (size (length ar)) (packRoom n lmax ar room)) ≡ 0) × (network (take (size (length ar)) (packRoom n lmax ar room)) ≡ house n lmax ar)
+    → (refusal (take (size (length ar)) (packRoom (fromList n lmax ar) room)) ≡ 0) × (network (take (size (length ar)) (packRoom (fromList n lmax ar) room)) ≡ house n lmax ar)
 both-entries n lmax ar room e =
-    let is = ap (λ (r : ℕ). take (size (length ar)) (keptIf r room (begins (bytesOf n lmax ar) room))) e
-    ∙ take-at (bytesOf n lmax ar) (drop (length (bytesOf n lmax ar)) room) (size (length ar)) (length-packed (size (length ar)) (netBits n lmax ar)) in
+    let whole = length-packed (size (length ar)) (netBits n lmax ar) in
+    let is = ap (take (size (length ar))) (written (listRefusal n lmax ar) room (begins (bytesOf n lmax ar) room) e)
+    ∙ ap (λ (k : ℕ). take k (begins (bytesOf n lmax ar) room)) (sym whole)
+    ∙ begins-read (bytesOf n lmax ar) room in
     subst (λ (s : List ℕ). (refusal s ≡ 0) × (network s ≡ house n lmax ar)) (sym is) (checks .list-as-bytes n lmax ar e)
 
 pub requirement2 : Requirement2

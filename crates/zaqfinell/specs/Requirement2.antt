@@ -71,4 +71,4 @@ pub record Requirement2 : Type 0 where
   pub list : (n lmax : ℕ) (ar : List Arc) → RightTables (fromList n lmax ar)
   -- "Both lead to the same run": the bytes made of an arc list are not refused, and mean that list's network
   pub both-entries : (n lmax : ℕ) (ar : List Arc) (room : List ℕ) → listRefusal n lmax ar ≡ 0
-      → (refusal (take (size (length ar)) (packRoom n lmax ar room)) ≡ 0) × (network (take (size (length ar)) (packRoom n lmax ar room)) ≡ house n lmax ar)
+      → (refusal (take (size (length ar)) (packRoom (fromList n lmax ar) room)) ≡ 0) × (network (take (size (length ar)) (packRoom (fromList n lmax ar) room)) ≡ house n lmax ar)

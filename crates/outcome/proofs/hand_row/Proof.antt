@@ -39,19 +39,19 @@ add-k c = search needs
 distance-requires : tie.Need-distance-requires Inv-loop μ-loop
 distance-requires c κs =
     let p = c .before .before .before .before .before .pre in
-    (omega arith, omega arith, p .2 .marks _ (p .1), p .2 .few _ (p .1), p .3)
+    (omega arith, omega arith, p .2, p .3)
 
 first-hop-requires : tie.Need-first-hop-requires Inv-loop μ-loop
 first-hop-requires c κs =
     let p = c .before .before .before .before .before .before .pre in
-    (omega arith, omega arith, p .2 .marks _ (p .1), p .2 .few _ (p .1), p .3)
+    (omega arith, omega arith, p .2, p .3)
 
 cast-hand-entry : tie.Need-cast-hand-entry Inv-loop μ-loop
 cast-hand-entry c =
     let start = c .before .before .before .before .before .before .before in
     let a = start .args in
     let small = cells-small (a .s .now) (λ j. omega (arith, c .before .before .before .before .before .before .shared-slice-known .given j)) (a .i) in
-    omega (arith, c .first-hop .ensures, hop-small (cells (a .s .now) (a .i)) small (start .pre .2 .marks _ (start .pre .1)) (c .before .before .before .before .loop .k + 1) (omega arith))
+    omega (arith, c .first-hop .ensures, hop-small (cells (a .s .now) (a .i)) small (start .pre .2 .marks) (c .before .before .before .before .loop .k + 1) (omega arith))
 
 hand-entry-requires : tie.Need-hand-entry-requires Inv-loop μ-loop
 hand-entry-requires c κs = search needs

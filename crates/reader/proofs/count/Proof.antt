@@ -1,17 +1,17 @@
 -- `count`: a turn takes one record, by the laws of Scanning.
 use Prim.Native.Nat.{_-_, _<_}
 use Rattle.method.specs.Network.{IsNode}
-use Rattle.reader.proofs.Scanning.{Going, going-start, going-few, going-marks, going-next, out-ends, out-wrong, counts}
+use Rattle.reader.proofs.Scanning.{Going, going-start, going-few, going-bits, going-next, out-ends, out-wrong, counts}
 use native.Mathlib.Omega.{arith}
 use borrow.Author.Needs.{needs}
 use Rattle.reader.proofs.count.Statement.{statement}
 use Rattle.reader.proofs.count.Tie as tie
 
 abbrev Inv-loop : tie.InvT-loop
-Inv-loop file own n lmax k₀ marks₀ k marks = Going own n lmax file k marks × (k < 16)
+Inv-loop file own n lmax k₀ seen₀ k seen = Going own n lmax file k seen × (k < 16)
 
 abbrev μ-loop : tie.MeasureT-loop
-μ-loop file own n lmax k₀ marks₀ k marks = 16 - k
+μ-loop file own n lmax k₀ seen₀ k seen = 16 - k
 
 loop-holds : tie.Need-loop-holds Inv-loop μ-loop
 loop-holds c =
@@ -38,8 +38,8 @@ returns c =
 add-y : tie.Need-add-y Inv-loop μ-loop
 add-y c = search needs
 
-is-marked-requires : tie.Need-is-marked-requires Inv-loop μ-loop
-is-marked-requires c κs = search needs
+is-seen-requires : tie.Need-is-seen-requires Inv-loop μ-loop
+is-seen-requires c κs = search needs
 
 add-is-wrong : tie.Need-add-is-wrong Inv-loop μ-loop
 add-is-wrong c = search needs
@@ -50,16 +50,16 @@ is-wrong-requires c κs = search needs
 returns-2 : tie.Need-returns-2 Inv-loop μ-loop
 returns-2 c =
     let own : IsNode (c .before .before .before .before .before .before .before .args .n) (c .before .before .before .before .before .before .before .args .own) = (omega arith, omega arith) in
-    counts (c .before .before .before .before .before .before .before .args .file .now) _ _ _ (out-wrong own (c .before .before .before .before .before .loop .inv .0) _ _ _ (c .before .before .before .before .record-at .ensures .0) (omega arith) (c .before .before .is-marked .ensures) (c .before .is-wrong .ensures) (c .if2 .taken))
+    counts (c .before .before .before .before .before .before .before .args .file .now) _ _ _ (out-wrong own (c .before .before .before .before .before .loop .inv .0) _ _ _ (c .before .before .before .before .record-at .ensures .0) (omega arith) (c .before .before .is-seen .ensures) (c .before .is-wrong .ensures) (c .if2 .taken))
 
 weight-requires : tie.Need-weight-requires Inv-loop μ-loop
 weight-requires c κs = search needs
 
-add-marks : tie.Need-add-marks Inv-loop μ-loop
-add-marks c =
+add-seen : tie.Need-add-seen Inv-loop μ-loop
+add-seen c =
     let own : IsNode (c .before .before .before .before .before .before .before .before .args .n) (c .before .before .before .before .before .before .before .before .args .own) = (omega arith, omega arith) in
-    let g = going-next own (c .before .before .before .before .before .before .loop .inv .0) _ _ _ (c .before .before .before .before .before .record-at .ensures .0) (omega arith) (c .before .before .before .is-marked .ensures) (c .before .before .is-wrong .ensures) _ (c .before .if2 .left) (c .weight .ensures) in
-    record { fits = omega (arith, going-marks own g (omega arith)) }
+    let g = going-next own (c .before .before .before .before .before .before .loop .inv .0) _ _ _ (c .before .before .before .before .before .record-at .ensures .0) (omega arith) (c .before .before .before .is-seen .ensures) (c .before .before .is-wrong .ensures) _ (c .before .if2 .left) (c .weight .ensures) in
+    record { fits = omega (arith, going-bits own g (omega arith)) }
 
 add-k : tie.Need-add-k Inv-loop μ-loop
 add-k c = search needs
@@ -70,7 +70,7 @@ loop-less c = search needs
 loop-again : tie.Need-loop-again Inv-loop μ-loop
 loop-again c =
     let own : IsNode (c .before .before .before .before .before .before .before .before .args .n) (c .before .before .before .before .before .before .before .before .args .own) = (omega arith, omega arith) in
-    let g = going-next own (c .before .before .before .before .before .before .loop .inv .0) _ _ _ (c .before .before .before .before .before .record-at .ensures .0) (omega arith) (c .before .before .before .is-marked .ensures) (c .before .before .is-wrong .ensures) _ (c .before .if2 .left) (c .weight .ensures) in
+    let g = going-next own (c .before .before .before .before .before .before .loop .inv .0) _ _ _ (c .before .before .before .before .before .record-at .ensures .0) (omega arith) (c .before .before .before .is-seen .ensures) (c .before .before .is-wrong .ensures) _ (c .before .if2 .left) (c .weight .ensures) in
     (g, omega (arith, going-few own g))
 
 pub count-spec : {M : Type 1} → statement M
@@ -86,12 +86,12 @@ count-spec =
     ending-at-requires
     returns
     add-y
-    is-marked-requires
+    is-seen-requires
     add-is-wrong
     is-wrong-requires
     returns-2
     weight-requires
-    add-marks
+    add-seen
     add-k
     loop-less
     loop-again)

@@ -2,17 +2,17 @@
 use mathlib.Core.Path.{refl}
 use Prim.Native.Nat.{_-_}
 use Rattle.method.specs.Network.{IsNode}
-use Rattle.reader.proofs.Scanning.{Scan, scan-start, scan-ends, scan-wrong, scan-next, going-marks}
+use Rattle.reader.proofs.Scanning.{Scan, scan-start, scan-ends, scan-wrong, scan-next, going-bits}
 use native.Mathlib.Omega.{arith}
 use borrow.Author.Needs.{needs}
 use Rattle.reader.proofs.scan.Statement.{statement}
 use Rattle.reader.proofs.scan.Tie as tie
 
 abbrev Inv-loop : tie.InvT-loop
-Inv-loop file own n lmax t p₀ marks₀ before₀ distance₀ hop₀ p marks before distance hop = Scan own n lmax t file p marks before distance hop
+Inv-loop file own n lmax t p₀ seen₀ before₀ distance₀ hop₀ p seen before distance hop = Scan own n lmax t file p seen before distance hop
 
 abbrev μ-loop : tie.MeasureT-loop
-μ-loop file own n lmax t p₀ marks₀ before₀ distance₀ hop₀ p marks before distance hop = 224 - p
+μ-loop file own n lmax t p₀ seen₀ before₀ distance₀ hop₀ p seen before distance hop = 224 - p
 
 loop-holds : tie.Need-loop-holds Inv-loop μ-loop
 loop-holds c =
@@ -33,11 +33,11 @@ returns c =
 add-target : tie.Need-add-target Inv-loop μ-loop
 add-target c = search needs
 
-add-via : tie.Need-add-via Inv-loop μ-loop
-add-via c = search needs
+add-first-hop : tie.Need-add-first-hop Inv-loop μ-loop
+add-first-hop c = search needs
 
-is-marked-requires : tie.Need-is-marked-requires Inv-loop μ-loop
-is-marked-requires c κs = search needs
+is-seen-requires : tie.Need-is-seen-requires Inv-loop μ-loop
+is-seen-requires c κs = search needs
 
 is-wrong-requires : tie.Need-is-wrong-requires Inv-loop μ-loop
 is-wrong-requires c κs = search needs
@@ -45,16 +45,16 @@ is-wrong-requires c κs = search needs
 returns-2 : tie.Need-returns-2 Inv-loop μ-loop
 returns-2 c =
     let own : IsNode (c .before .before .before .before .before .before .before .args .n) (c .before .before .before .before .before .before .before .args .own) = (omega arith, omega arith) in
-    scan-wrong own (c .before .before .before .before .before .loop .inv) _ _ _ (c .before .before .before .before .record-at .ensures .0) (omega arith) (c .before .before .is-marked .ensures) (c .before .is-wrong .ensures) (c .if2 .taken)
+    scan-wrong own (c .before .before .before .before .before .loop .inv) _ _ _ (c .before .before .before .before .record-at .ensures .0) (omega arith) (c .before .before .is-seen .ensures) (c .before .is-wrong .ensures) (c .if2 .taken)
 
 weight-requires : tie.Need-weight-requires Inv-loop μ-loop
 weight-requires c κs = search needs
 
-add-marks : tie.Need-add-marks Inv-loop μ-loop
-add-marks c =
+add-seen : tie.Need-add-seen Inv-loop μ-loop
+add-seen c =
     let own : IsNode (c .before .before .before .before .before .before .before .before .args .n) (c .before .before .before .before .before .before .before .before .args .own) = (omega arith, omega arith) in
-    let g = scan-next own (c .before .before .before .before .before .before .loop .inv) _ _ _ (c .before .before .before .before .before .record-at .ensures .0) (omega arith) (c .before .before .before .is-marked .ensures) (c .before .before .is-wrong .ensures) _ _ _ (omega arith) (c .before .if2 .left) (c .weight .ensures) refl refl in
-    record { fits = omega (arith, going-marks own (g .going) (omega arith)) }
+    let g = scan-next own (c .before .before .before .before .before .before .loop .inv) _ _ _ (c .before .before .before .before .before .record-at .ensures .0) (omega arith) (c .before .before .before .is-seen .ensures) (c .before .before .is-wrong .ensures) _ _ _ (omega arith) (c .before .if2 .left) (c .weight .ensures) refl refl in
+    record { fits = omega (arith, going-bits own (g .going) (omega arith)) }
 
 add-before : tie.Need-add-before Inv-loop μ-loop
 add-before c = search needs
@@ -80,7 +80,7 @@ loop-less c = search needs
 loop-again : tie.Need-loop-again Inv-loop μ-loop
 loop-again c =
     let own : IsNode (c .before .before .before .before .before .before .before .before .before .before .args .n) (c .before .before .before .before .before .before .before .before .before .before .args .own) = (omega arith, omega arith) in
-    scan-next own (c .before .before .before .before .before .before .before .before .loop .inv) _ _ _ (c .before .before .before .before .before .before .before .record-at .ensures .0) (omega arith) (c .before .before .before .before .before .is-marked .ensures) (c .before .before .before .before .is-wrong .ensures) _ _ _ (omega arith) (c .before .before .before .if2 .left) (c .before .before .weight .ensures) (c .before .chosen .ensures) (c .chosen2 .ensures)
+    scan-next own (c .before .before .before .before .before .before .before .before .loop .inv) _ _ _ (c .before .before .before .before .before .before .before .record-at .ensures .0) (omega arith) (c .before .before .before .before .before .is-seen .ensures) (c .before .before .before .before .is-wrong .ensures) _ _ _ (omega arith) (c .before .before .before .if2 .left) (c .before .before .weight .ensures) (c .before .chosen .ensures) (c .chosen2 .ensures)
 
 pub scan-spec : {M : Type 1} → statement M
 scan-spec =
@@ -93,12 +93,12 @@ scan-spec =
     ending-at-requires
     returns
     add-target
-    add-via
-    is-marked-requires
+    add-first-hop
+    is-seen-requires
     is-wrong-requires
     returns-2
     weight-requires
-    add-marks
+    add-seen
     add-before
     cast-chosen
     chosen-requires

@@ -5,7 +5,7 @@ use mathlib.Core.Path.{_∙_}
 use lib.ListN.{length-set}
 use Rattle.cells.specs.Part.{cells, stateOf}
 use Rattle.route.specs.Route.{distanceTo}
-use Rattle.route.proofs.Laying.{i-low, readable, arrives, onward, nears, h-low, inside, room-left, written}
+use Rattle.route.proofs.Laying.{readable, arrives, onward, nears, h-low, inside, room-left, written}
 use Prim.Native.Nat.{ℕ, _<_}
 use borrow.Fn.Kinds.{In}
 use borrow.Fn.PlainCycle.{Measures, is, falls, and}
@@ -45,9 +45,8 @@ follow-first-hop-requires : (t : ℕ) → follow-lts.Need-first-hop-requires (
 follow-first-hop-requires t c κs =
     let a = c .before .before .before .args in
     let p = c .before .before .before .pre .1 in
-    let l = i-low (cells (a .s .now)) (a .i) (a .y) (p .0 .asked) in
     let q = readable (cells (a .s .now)) (a .i) (a .y) (p .0 .asked) in
-    (l .0, l .1, q .0, q .1, p .2)
+    (q .0, q .1, q .2, p .2)
 
 follow-cast-room : (t : ℕ) → follow-lts.Need-cast-room (
   first-hop-reads.Asked,

@@ -1,5 +1,5 @@
 -- `find_way`: by the distance's marks.
-use Rattle.route.proofs.Laying.{i-low, readable, says-unknown, says-unreachable, says-filled, fits, filled-answers}
+use Rattle.route.proofs.Laying.{readable, says-unknown, says-unreachable, says-filled, fits, filled-answers}
 use Rattle.route.specs.Route.{route}
 use Rattle.cells.specs.Part.{cells, stateOf}
 use mathlib.Core.Path.{sym, _∙_}
@@ -12,9 +12,8 @@ distance-requires : tie.Need-distance-requires
 distance-requires c κs =
     let a = c .before .before .args in
     let p = c .before .before .pre in
-    let l = i-low (cells (a .s .now)) (a .i) (a .y) (p .0) in
     let q = readable (cells (a .s .now)) (a .i) (a .y) (p .0) in
-    (l .0, l .1, q .0, q .1, p .2)
+    (q .0, q .1, q .2, p .2)
 
 is-unknown-requires : tie.Need-is-unknown-requires
 is-unknown-requires c κs = search needs
@@ -69,7 +68,7 @@ returns-3 c =
     let xs = route (stateOf m) (a .y) (a .i) in
     let w = says-filled m (a .i) (a .y) (p .0) (distance .result .0) (distance .ensures) xs (a .room .now) (sym (is-unknown .ensures) ∙ if1 .left)
     (sym (is-unreachable .ensures) ∙ if2 .left) in
-    filled-answers m (a .i) (a .y) w (a .room .now) (follow .last .1 .0) (follow .result) (follow .ensures .0) (follow .ensures .1)
+    filled-answers m (a .i) (a .y) w (a .room .now) (follow .last .1 .0) (follow .result) (p .1) (follow .ensures .0) (follow .ensures .1)
 
 pub find-way-spec : {M : Type 1} → statement M
 find-way-spec =

@@ -25,13 +25,13 @@ use denote.Triple.Spec.{tripleOf}
 use denote.Triple.Walked.{says}
 use denote.Triple.Clauses.{Lasts, ensured, lasts}
 use Rattle.network.specs.Refusal.{_else_, arcRefusal}
-use Rattle.network.specs.ArcList.{sizeRefusal}
+use Rattle.network.specs.ArcList.{earlyListRefusal}
 use Rattle.network.specs.LaidOut.{headed, withArc}
 use Rattle.network.specs.Marks.{marked}
 use Rattle.list.specs.Given.{given}
 use Rattle.list.specs.declared.Arc.{Arc}
 use Rattle.list.specs.declared.Listed.{Listed}
-use Rattle.list.proofs.size as size
+use Rattle.list.proofs.before_arcs as before-arcs
 use Rattle.list.proofs.begin as begin
 use Rattle.list.proofs.add as add
 use Rattle.list.proofs.Listed as S
@@ -51,8 +51,8 @@ Finished f g r = (r .refused ≡ f) × (r .laid ≡ g)
 
 module _ {M : Type 1} (𝓤 : URA M) (H : Heap 𝓤) (A : Atoms 𝓤) (mem : Memory → SProp 𝓤) (run : Routine → Fun 𝓤) where
   -- the contracts that the proof cites
-  abbrev pub Size : Contract 𝓤
-  Size = tripleOf 𝓤 H A size.signature (size.spec 𝓤 H A mem run)
+  abbrev pub BeforeArcs : Contract 𝓤
+  BeforeArcs = tripleOf 𝓤 H A before-arcs.signature (before-arcs.spec 𝓤 H A mem run)
 
   abbrev pub Begin : Contract 𝓤
   Begin = tripleOf 𝓤 H A begin.signature (begin.spec 𝓤 H A mem run)
@@ -64,25 +64,25 @@ module _ {M : Type 1} (𝓤 : URA M) (H : Heap 𝓤) (A : Atoms 𝓤) (mem : Mem
   Finish = tripleOf 𝓤 H A finish.signature (finish.spec 𝓤 H A mem run)
 
 module _ {M : Type 1} (𝓤 : URA M) (H : Heap 𝓤) (A : Atoms 𝓤) (W : Given 𝓤 H A) (mem : Memory → SProp 𝓤) (run : Routine → Fun 𝓤) (n lm : ℕ) where
-  -- `size` and `begin`, of m arcs
+  -- `before_arcs` and `begin`, of m arcs
   module _ (m : ℕ) where
     abbrev sizes : ℕ × (ℕ × (ℕ × Unit {0}))
     sizes = (n, (lm, (m, tt)))
 
-    abbrev sizes-passed : Vals size.signature tt
+    abbrev sizes-passed : Vals before-arcs.signature tt
     sizes-passed = (vint w8 n ∷ [], (vint w8 lm ∷ [], (vint w64 m ∷ [], tt)))
 
-    abbrev pub to-size : Size 𝓤 H A mem run .Ghost
-    to-size = ((tt, tt, tt, sizes, sizes-passed), tt)
+    abbrev pub to-before-arcs : BeforeArcs 𝓤 H A mem run .Ghost
+    to-before-arcs = ((tt, tt, tt, sizes, sizes-passed), tt)
 
-    pub asked-size : ent 𝓤 (sep 𝓤 (sem 𝓤 H A ftrue) (sem 𝓤 H A (owns (u8 ∷ u8 ∷ usize ∷ []) sizes sizes-passed))) (Size 𝓤 H A mem run .pre to-size)
-    asked-size = qed W (‵ ftrue ∷ ‵ (owns (u8 ∷ u8 ∷ usize ∷ []) sizes sizes-passed) ∷ []) ∵ join ! $ frame ! $ done !
+    pub asked-before-arcs : ent 𝓤 (sep 𝓤 (sem 𝓤 H A ftrue) (sem 𝓤 H A (owns (u8 ∷ u8 ∷ usize ∷ []) sizes sizes-passed))) (BeforeArcs 𝓤 H A mem run .pre to-before-arcs)
+    asked-before-arcs = qed W (‵ ftrue ∷ ‵ (owns (u8 ∷ u8 ∷ usize ∷ []) sizes sizes-passed) ∷ []) ∵ join ! $ frame ! $ done !
 
-    pub said-size : (r : ℕ) → ent 𝓤 (ensured 𝓤 H A size.ended (size.clauses 𝓤 H A mem run) tt sizes tt r) (fact 𝓤 (r ≡ sizeRefusal n lm m))
-    said-size r = exE 𝓤 _ (λ ws. snd∗ 𝓤 (sem 𝓤 H A (lasts size.ended tt sizes ws)) (fact 𝓤 (r ≡ sizeRefusal n lm m)))
+    pub said-before-arcs : (r : ℕ) → ent 𝓤 (ensured 𝓤 H A before-arcs.ended (before-arcs.clauses 𝓤 H A mem run) tt sizes tt r) (fact 𝓤 (r ≡ earlyListRefusal n lm m))
+    said-before-arcs r = exE 𝓤 _ (λ ws. snd∗ 𝓤 (sem 𝓤 H A (lasts before-arcs.ended tt sizes ws)) (fact 𝓤 (r ≡ earlyListRefusal n lm m)))
 
-    abbrev pub size-gives : Val → Item 𝓤
-    size-gives u = later (some (λ (r : ℕ). (‵ ftrue ⊛ ‵ (u32 .own r (u ∷ []))) ⊛ raw (ensured 𝓤 H A size.ended (size.clauses 𝓤 H A mem run) tt sizes tt r)))
+    abbrev pub before-arcs-gives : Val → Item 𝓤
+    before-arcs-gives u = later (some (λ (r : ℕ). (‵ ftrue ⊛ ‵ (u32 .own r (u ∷ []))) ⊛ raw (ensured 𝓤 H A before-arcs.ended (before-arcs.clauses 𝓤 H A mem run) tt sizes tt r)))
 
     abbrev pub to-begin : Begin 𝓤 H A mem run .Ghost
     to-begin = ((tt, tt, tt, sizes, sizes-passed), tt)

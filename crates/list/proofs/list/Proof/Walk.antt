@@ -46,12 +46,12 @@ use denote.Triple.Statement.{Triple}
 use denote.Triple.Call.{calls-at}
 use denote.Triple.Entry.{onEntry}
 use denote.Triple.Walked.{says, walkOf, ends-at}
-use Rattle.network.specs.ArcList.{sizeRefusal}
+use Rattle.network.specs.ArcList.{earlyListRefusal}
 use Rattle.network.specs.LaidOut.{headed}
 use Rattle.list.specs.declared.Arc.{Arc}
 use Rattle.list.proofs.Arc as T
 use Rattle.list.proofs.Arc.Laws as T′
-use Rattle.list.proofs.size.Symbol.{name as #list·size}
+use Rattle.list.proofs.before_arcs.Symbol.{name as #list·before-arcs}
 use Rattle.list.proofs.begin.Symbol.{name as #list·begin}
 use Rattle.list.proofs.add.Symbol.{name as #list·add}
 use Rattle.list.specs.Given.{given}
@@ -64,8 +64,8 @@ use Rattle.list.proofs.finish.Symbol.{name as #list·finish}
 use Rattle.list.proofs.list as list
 use Rattle.list.proofs.list.Code as code
 use Rattle.list.proofs.list.Code.Mir as mirs
-use Rattle.list.proofs.list.Proof.Calls.{Size, Begin, Add, Finish, LaidRow, to-size, asked-size, said-size, size-gives, to-begin, asked-begin, said-begin, begin-gives, to-add, asked-add, Added, add-gives, add-ensures, to-finish, asked-finish, said-finish, Finished, finish-gives}
-use Rattle.list.proofs.list.Proof.Spots.{stayed, ArcM, ListedM, byte, numberM, word, laidM, lentM, slice, x, at, Res, Bor, Fact, Tokens, Params, Spot, Facts, At, Stack, Sized}
+use Rattle.list.proofs.list.Proof.Calls.{BeforeArcs, Begin, Add, Finish, LaidRow, to-before-arcs, asked-before-arcs, said-before-arcs, before-arcs-gives, to-begin, asked-begin, said-begin, begin-gives, to-add, asked-add, Added, add-gives, add-ensures, to-finish, asked-finish, said-finish, Finished, finish-gives}
+use Rattle.list.proofs.list.Proof.Spots.{stayed, ArcM, ListedM, byte, numberM, word, laidM, lentM, slice, x, at, Res, Bor, Fact, Tokens, Params, Spot, Facts, At, Stack, Early}
 
 module _ {M : Type 1} (𝓤 : URA M) (H : Heap 𝓤) (A : Atoms 𝓤) (W : Given 𝓤 H A) (mem : Memory → SProp 𝓤) (run : Routine → Fun 𝓤) (n lm : ℕ) (κ : Lft) (q : Share) (b o : ℕ) (γ : GName) (ys : List Arc) (n-fits : n < 2 ^ 8) (lm-fits : lm < 2 ^ 8) where
   abbrev m : ℕ
@@ -89,7 +89,7 @@ module _ {M : Type 1} (𝓤 : URA M) (H : Heap 𝓤) (A : Atoms 𝓤) (W : Given
   laid-typed : (h : List ℕ) (w : Val) → Is LaidRow h (w ∷ []) → Tr (hasTy laidM w) × WT w
   laid-typed h w is = array-lawful 𝓤 H A W u8 (uint-lawful 𝓤 H A W w8) 772 .typed h (w ∷ []) is .0
 
-  module _ (𝓣 : Tables 𝓤 H) (known-size : Triple 𝓤 (𝓣 .C #list·size) (Size 𝓤 H A mem run)) (known-begin : Triple 𝓤 (𝓣 .C #list·begin) (Begin 𝓤 H A mem run))
+  module _ (𝓣 : Tables 𝓤 H) (known-before-arcs : Triple 𝓤 (𝓣 .C #list·before-arcs) (BeforeArcs 𝓤 H A mem run)) (known-begin : Triple 𝓤 (𝓣 .C #list·begin) (Begin 𝓤 H A mem run))
       (known-add : Triple 𝓤 (𝓣 .C #list·add) (Add 𝓤 H A mem run)) (known-finish : Triple 𝓤 (𝓣 .C #list·finish) (Finish 𝓤 H A mem run)) (g : Room T.the-row m) where
     abbrev C : Calls 𝓤 H
     C = 𝓣 .C
@@ -235,9 +235,9 @@ module _ {M : Type 1} (𝓤 : URA M) (H : Heap 𝓤) (A : Atoms 𝓤) (W : Given
       loops f u h e = via 𝓤 (Inv (m - 0)) (into (m - 0) (0, f, u, h) (refl, omega arith, e)) (loop-rule 𝓤 H (W .laws) 𝓣 _<_ (Nat·lt-wfRel .wf) En mirs.turn-1 Left Inv turns (m - 0))
 
       abbrev Begun : ℕ → Val → List (Item 𝓤)
-      Begun = Sized 𝓤 n lm κ q b o γ ys l₀ l₁ l₂ l₃ l₄ l₅ l₆ l₇ l₈ l₉ l₁₀ l₁₁ l₁₂ l₁₃ l₁₄
+      Begun = Early 𝓤 n lm κ q b o γ ys l₀ l₁ l₂ l₃ l₄ l₅ l₆ l₇ l₈ l₉ l₁₀ l₁₁ l₁₂ l₁₃ l₁₄
 
-      headers : (f : ℕ) (u : Val) → f ≡ sizeRefusal n lm m → ent 𝓤 (⋆ 𝓤 H A (Begun f u)) (Wp 𝓤 H C Λ En mirs.t-3 (atReturn 𝓤 H En Post))
+      headers : (f : ℕ) (u : Val) → f ≡ earlyListRefusal n lm m → ent 𝓤 (⋆ 𝓤 H A (Begun f u)) (Wp 𝓤 H C Λ En mirs.t-3 (atReturn 𝓤 H En Post))
       headers f u e =
           qed W (Begun f u) ∵ exec ! C Λ En mirs.t-3 (atRet En Post) $
           assigns ! (of-opd ! (load ! (from ! (fld ! refl (stop !))) (look-in ! 23 (sub ! 1 refl (whole !))))) (from ! (stop !)) (store ! 13 refl (tt, record { fits = g .0 })) $
@@ -257,9 +257,9 @@ module _ {M : Type 1} (𝓤 : URA M) (H : Heap 𝓤) (A : Atoms 𝓤) (W : Given
       starts =
           assigns ! (of-opd ! (load ! (from ! (fld ! refl (stop !))) (look-in ! 22 (sub ! 1 refl (whole !))))) (from ! (stop !)) (init ! 12 refl (tt, record { fits = g .0 })) $
           nothing ! $ owned ! usize (Is usize) (uint-makes 𝓤 H A W w64) m _ (refl, g .0) $ fjoin ! $ owned ! u8 (Is u8) (uint-makes 𝓤 H A W w8) lm _ (refl, lm-fits) $ fjoin ! $
-          owned ! u8 (Is u8) (uint-makes 𝓤 H A W w8) n _ (refl, n-fits) $ fjoin ! $ nothing ! $ use2 W (raw (Size 𝓤 H A mem run .pre (to-size 𝓤 H A W mem run n lm m))) (asked-size 𝓤 H A W mem run n lm m) $
-          calls-at ! fm (Size 𝓤 H A mem run) known-size (to-size 𝓤 H A W mem run n lm m) (and-then ! (load ! (from ! (stop !)) (look ! 27 refl)) (and-then ! (load ! (from ! (stop !)) (look ! 25 refl)) (and-then ! (load ! (from ! (stop !)) (look ! 13 refl)) (no-more !)))) (λ u.
-          use1 W (size-gives 𝓤 H A W mem run n lm m u) (id⊢ 𝓤 _) $ await ! tt $ pick ! (λ f. split ! $ move ! (1 ∷ []) $ use1 W (raw (fact 𝓤 (f ≡ sizeRefusal n lm m))) (said-size 𝓤 H A W mem run n lm m f) $ heard ! (f ≡ sizeRefusal n lm m) (λ e. split ! $ drop ! $
+          owned ! u8 (Is u8) (uint-makes 𝓤 H A W w8) n _ (refl, n-fits) $ fjoin ! $ nothing ! $ use2 W (raw (BeforeArcs 𝓤 H A mem run .pre (to-before-arcs 𝓤 H A W mem run n lm m))) (asked-before-arcs 𝓤 H A W mem run n lm m) $
+          calls-at ! fm (BeforeArcs 𝓤 H A mem run) known-before-arcs (to-before-arcs 𝓤 H A W mem run n lm m) (and-then ! (load ! (from ! (stop !)) (look ! 27 refl)) (and-then ! (load ! (from ! (stop !)) (look ! 25 refl)) (and-then ! (load ! (from ! (stop !)) (look ! 13 refl)) (no-more !)))) (λ u.
+          use1 W (before-arcs-gives 𝓤 H A W mem run n lm m u) (id⊢ 𝓤 _) $ await ! tt $ pick ! (λ f. split ! $ move ! (1 ∷ []) $ use1 W (raw (fact 𝓤 (f ≡ earlyListRefusal n lm m))) (said-before-arcs 𝓤 H A W mem run n lm m f) $ heard ! (f ≡ earlyListRefusal n lm m) (λ e. split ! $ drop ! $
           peeks ! u32 (Is u32) (shows 𝓤 H A u32) f (u ∷ []) (λ is.
           land ! (from ! (stop !)) (init ! 21 refl (uint-lawful 𝓤 H A W w32 .typed f _ is .0)) $ by ! (headers f u e)))))
 
