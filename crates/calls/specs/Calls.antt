@@ -89,7 +89,7 @@ entryRefusal net bs i y = net .refused else when (outside (nodesOf net) i) 11 el
 abbrev pub entryAnswer : Checked → List ℕ → ℕ → ℕ → ℕ
 entryAnswer net bs i y = entryRefusal net bs i y else entryValues (entryAfter net bs i y)
 
--- A route: the nodes behind node i on the way to y, y last; none where the entry is unknown or unreachable, or i is y.
+-- A route: the nodes after node i on the way to y, y last; none where the entry is unknown or unreachable, or i is y.
 abbrev pub passed : Entry → List ℕ → List ℕ
 passed unknown xs = []
 passed unreachable xs = []

@@ -41,7 +41,7 @@ use Rattle.calls.proofs.Ten.{never-ten}
 use Rattle.calls.proofs.Asked.{run-accepted, Asked, asked}
 use Rattle.calls.specs.Answers.{readAnswer}
 use Rattle.calls.specs.Calls.{nodesOf, stateAfter, entryAfter, countsOf, stoppedOf, tenRefusal, runRefusal, entryRefusal, entryAnswer, passed, nodesPassed, routeRoom, isUnstarted, fileAfter, writeRefusal, writeRoom}
-use Rattle.zaqfinell.specs.Requirement2.{IsSo, Way, RightTables, Requirement2}
+use Rattle.zaqfinell.specs.Requirement2.{IsSo, Followed, RightTables, Requirement2}
 use Rattle.zaqfinell.proofs.Small.{early-bytes, early-list}
 use Rattle.zaqfinell.proofs.Ending.{all-or-one, ends}
 use Rattle.zaqfinell.proofs.Asked.{answered, wrote, beside}
@@ -134,7 +134,7 @@ module _ (net : Checked) (sound : OfMethod net) (not-13 : net .refused ≢ 13) w
   are-route : (bs : List ℕ) (i y d h : ℕ) → entryAfter net bs i y ≡ known d h → nodesPassed net bs i y ≡ route (stateAfter net bs) y i
   are-route bs i y d h is = ap (λ (x : Entry). passed x (route (stateAfter net bs) y i)) is
 
-  way : (bs : List ℕ) (i y d h : ℕ) → entryRefusal net bs i y ≡ 0 → entryAfter net bs i y ≡ known d h → Way net bs i y d h
+  way : (bs : List ℕ) (i y d h : ℕ) → entryRefusal net bs i y ≡ 0 → entryAfter net bs i y ≡ known d h → Followed net bs i y d h
   way bs i y d h e is =
       let a = asked net sound bs i y e in
       let r = route-laws (net .meant) .arrives (a .accepted) (steps bs) i y d h (a .node) is in
