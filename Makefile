@@ -9,7 +9,7 @@ demo:
 	@bash tools/sample_house.sh list
 	@echo
 	@echo "What House table makes of it (node, target, distance, first hop):"
-	@bash tools/sample_house.sh | target/bin/house_table
+	@bash -c '. tools/host.sh; bash tools/sample_house.sh | "$$(program house_table)"'
 
 test:
 	bash .ci/run

@@ -3,11 +3,12 @@
 # usage: run.sh    LIBRARY=file.a: measures that library instead of building one
 set -eu
 cd "$(dirname "$0")/.."
+. tools/host.sh
 library=${LIBRARY:-target/staticlib/libzaqfinell.a}
 [ -n "${LIBRARY:-}" ] || bash tools/library.sh
 out=target/bench
 mkdir -p "$out"
-compile="${CC:-cc} -std=c99 -Wall -Wextra -Werror"
+compile="$CC -std=c99 -Wall -Wextra -Werror"
 
 # the competitor at both levels, the houses, and the outside tests' simulation, which says what is right
 parts=("$out/houses.o" "$out/reference.o" "$out/reference_run.o" "$out/in_header.o")
@@ -20,9 +21,14 @@ done
 $compile -O2 -c bench/houses.c -o "$out/houses.o"
 for source in reference reference_run in_header; do $compile -O2 -c "tests/outside/$source.c" -o "$out/$source.o"; done
 
-echo "the library against plain C, $(${CC:-cc} --version | head -n 1); load when it began: $(cut -d ' ' -f 1 /proc/loadavg)"
+echo "the library against plain C, $("$CC" --version | head -n 1); load when it began: $(cut -d ' ' -f 1 /proc/loadavg)"
 echo "a ratio is the middle of 101 rounds, the middle half of them in brackets"
-for program in check run write read stack; do
+programs='check run write read stack'
+if [ "$emulated" = yes ] && [ -z "${LIBRARY:-}" ]; then
+    echo 'the programs are emulated here: their times say nothing, and only the stack is measured'
+    programs=stack
+fi
+for program in $programs; do
     $compile -O2 "bench/$program.c" "${parts[@]}" "$library" -o "$out/$program"
     "$out/$program"
 done

@@ -16,7 +16,7 @@ build() { # build FOLDER FLAG..: both programs
     mkdir -p "$into"
     for program in table_file routes; do
         verdict "$program compiles" \
-            "${CC:-cc}" -std=c99 -Wall -Wextra -Wpedantic -Werror "$@" -Iinclude "examples/$program.c" "$library" -o "$into/$program"
+            "$CC" -std=c99 -Wall -Wextra -Wpedantic -Werror "$@" -Iinclude "examples/$program.c" "$library" -o "$into/$program"
     done
 }
 
@@ -84,7 +84,11 @@ try_all
 run=("$folder/plain/routes")
 verdict 'the routes' prints "$routes"
 
-if command -v valgrind > /dev/null; then
+if [ "$emulated" = yes ]; then
+    echo 'not once more under valgrind or with sanitizers: the programs are emulated here'
+    closing_line
+    exit
+elif command -v valgrind > /dev/null; then
     echo 'once more under valgrind'
     again=(valgrind -q --error-exitcode=99 --leak-check=full)
     programs=$folder/plain

@@ -2,7 +2,7 @@
 # The program house_table, run as a bench crew runs it, against document 01's worked example and against an independent program.
 . "$(dirname "$0")/verdict.sh"
 
-program=target/bin/house_table
+program=$(program house_table)
 independent=target/outside/outside
 mkdir -p target/house_table
 input=target/house_table/input
@@ -11,7 +11,7 @@ same() { # same TEXT: the program and the independent one print the same for the
     verdict "$1" cmp -s <("$program" < "$input") <("$independent" print < "$input")
 }
 
-verdict 'it is built' test -x "$program"
+verdict 'it is built' test -x target/bin/house_table
 verdict 'the independent program is built' test -x "$independent"
 
 printf '\x11\x10\x01\x01\x10\x00\x01\x10\x10\x10' > "$input"

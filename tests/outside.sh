@@ -3,7 +3,8 @@
 # usage: outside.sh [SEED]
 set -eu
 cd "$(dirname "$0")/.."
+. tools/host.sh
 bash tools/library.sh
 mkdir -p target/outside
-${CC:-cc} -std=c99 -Wall -Wextra -Werror -O2 tests/outside/*.c target/staticlib/libzaqfinell.a -o target/outside/outside
+"$CC" -std=c99 -Wall -Wextra -Werror -O2 tests/outside/*.c target/staticlib/libzaqfinell.a -o target/outside/outside
 target/outside/outside "$@"

@@ -8,7 +8,7 @@ sed -n '/^```c$/,/^```$/p' README.md | sed '/^```/d' > target/readme/program.c
 verdict 'it has a C program' test -s target/readme/program.c
 verdict 'the static library is built' bash tools/library.sh
 verdict 'its program compiles' \
-    "${CC:-cc}" -std=c99 -Wall -Wextra -Werror -Iinclude target/readme/program.c target/staticlib/libzaqfinell.a -o target/readme/program
+    "$CC" -std=c99 -Wall -Wextra -Werror -Iinclude target/readme/program.c target/staticlib/libzaqfinell.a -o target/readme/program
 verdict 'its program says the distance of 01 for that house' test "$(target/readme/program)" = 'distance 1 by 2'
 
 # a word in capitals alone on a line is a place that somebody meant to fill

@@ -1,6 +1,7 @@
 # Sourced by the tests that are scripts: goes to the repository's root, counts, and makes bytes.
 set -u
 cd "$(dirname "${BASH_SOURCE[0]}")/.." || exit 1
+. tools/host.sh
 passed=0
 failed=0
 

@@ -3,6 +3,7 @@
 # ZAQ_LIBRARY names a static library to link instead of the one that is proved and built here.
 set -eu
 cd "$(dirname "$0")/.."
+. tools/host.sh
 library=${ZAQ_LIBRARY:-target/staticlib/libzaqfinell.a}
 [ -n "${ZAQ_LIBRARY:-}" ] || bash tools/library.sh
 mkdir -p target/tools
@@ -10,7 +11,7 @@ mkdir -p target/tools
 build() { # build NAME SOURCE..
     local name=$1
     shift
-    "${CC:-cc}" -std=c99 -Wall -Wextra -Werror -O2 -Iinclude "$@" "$library" -lm -o "target/tools/$name"
+    "$CC" -std=c99 -Wall -Wextra -Werror -O2 -Iinclude "$@" "$library" -lm -o "target/tools/$name"
 }
 
 for tool in "${@:-draw_house}"; do

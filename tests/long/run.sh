@@ -3,6 +3,8 @@
 # usage: run.sh [HOUSES [SEED]]     what is missing is told and counts as failed: nothing is claimed that was not run
 set -u
 cd "$(dirname "$0")/../.." || exit 1
+. tools/host.sh
+house_table=$(program house_table)
 work=target/check_long
 mkdir -p "$work"
 passed=0
@@ -43,8 +45,8 @@ python_with_networkx() { # Debian's networkx belongs to Debian's python, which n
 
 liars() { # two programs that are wrong in one way each must be found out
     local caught=0 name
-    printf '#!/bin/sh\n"%s" | sed "s/^1 2 \\([0-9][0-9]*\\) [0-9]*$/1 2 \\1 3/"\n' "$PWD/target/bin/house_table" > "$work/wrong_hop"
-    printf '#!/bin/sh\n"%s" | sed "s/? ?/- -/"\n' "$PWD/target/bin/house_table" > "$work/unknown_is_unreachable"
+    printf '#!/bin/sh\n"%s" | sed "s/^1 2 \\([0-9][0-9]*\\) [0-9]*$/1 2 \\1 3/"\n' "$house_table" > "$work/wrong_hop"
+    printf '#!/bin/sh\n"%s" | sed "s/? ?/- -/"\n' "$house_table" > "$work/unknown_is_unreachable"
     for name in wrong_hop unknown_is_unreachable; do
         chmod +x "$work/$name"
         "$python" tests/long/networkx_check.py "$work/$name" "$work/liars" 20 1 > "$work/said"
@@ -77,7 +79,7 @@ elif [ ! -x target/bin/house_table ]; then
     missing networkx target/bin/house_table 'make demo builds it'
 else
     versions+=("$("$python" --version), networkx $("$python" -c 'import networkx; print(networkx.__version__)')")
-    part networkx "$python" tests/long/networkx_check.py target/bin/house_table "$work/networkx" "$@"
+    part networkx "$python" tests/long/networkx_check.py "$house_table" "$work/networkx" "$@"
     part 'wrong programs' liars
 fi
 
