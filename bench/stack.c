@@ -4,7 +4,7 @@
 #include <stdio.h>
 #include <string.h>
 
-enum { NET_ARCS = 240, REACH = 1 << 16, PATTERN = 0xA5, WHOLE_CALL = 16384, READ_CALL = 256, STATE_ARRAY = 12886 };
+enum { NET_ARCS = 240, REACH = 1 << 16, PATTERN = 0xA5, WHOLE_CALL = 8192, READ_CALL = 256, STATE_ARRAY = 5840 };
 
 static struct house house; /* a house of sixteen in which everybody hears everybody, with all the steps of a whole run */
 static uint8_t input[NET_ROOM + STEP_ROOM], text[ZAQ_HOUSE_TABLE_ROOM], file[ZAQ_FILE_ROOM], way[ZAQ_ROUTE_ROOM];
@@ -119,7 +119,11 @@ static const struct {
 static __attribute__((noinline)) size_t used(void (*call)(void))
 {
     volatile uint8_t *here;
+#ifdef __x86_64__
     __asm__ volatile("mov %%rsp, %0" : "=r"(here));
+#else
+    __asm__ volatile("mov %0, sp" : "=r"(here));
+#endif
     for (volatile uint8_t *p = here - REACH; p < here; p++)
         *p = PATTERN;
     call();

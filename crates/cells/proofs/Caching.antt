@@ -19,11 +19,14 @@ use Rattle.method.proofs.Sent.{sendLen-last}
 use Rattle.method.proofs.View.{with}
 use Rattle.method.proofs.Oldest.{heard-took}
 use Rattle.network.specs.Layout.{lenAt}
-use Rattle.cells.specs.Part.{Part, msgOf, entryAt, row, nodeOf, siteOf, marked, sumOf}
+use Rattle.cells.specs.Part.{Part, entryMost, tableSize, labelMost, phaseAt, sentCount, entryCount, lpAt, lastAt, waitsAt}
+use Rattle.cells.specs.Part.{deliveredAt, takenAt, sumsAt, marksAt, targetsAt, distancesAt, hopsAt, messagesAt, msgOf, entryAt, row}
+use Rattle.cells.specs.Part.{nodeOf, siteOf, marked, sumOf}
 use Rattle.cells.specs.Stores.{upd, counted, pushed, lengthSent, waited, noted, filled, stopped, begun}
 use Rattle.cells.specs.Caches.{Last, Marks, Sums, Caches}
 use Rattle.cells.proofs.Stored.{pushed-else, sent-else}
-use Rattle.cells.proofs.Meaning.{skip, label-is, table-same, row-at, sent-off, push-site, sent-last, length-site, noted-else, noted-kept, noted-mark, noted-old, noted-new, noted-count, noted-sent, noted-table}
+use Rattle.cells.proofs.Meaning.{skip, label-is, table-same, row-at, sent-off, push-site, sent-last, length-site, noted-else}
+use Rattle.cells.proofs.Meaning.{noted-kept, noted-mark, noted-old, noted-new, noted-count, noted-sent, noted-table}
 
 marked-same : (f f′ : Part) (k : ℕ) → ((q : ℕ) → q < k → entryAt f′ q ≡ entryAt f q) → marked f′ k ≡ marked f k
 marked-same f f′ zero e = refl
@@ -31,32 +34,39 @@ marked-same f f′ (suc k) e = ap some (e k (omega arith))
 
 -- from the place lo to the messages all is the same, and the number of entries too
 pub record Quiet (lo : ℕ) (f f′ : Part) : Type 0 where
-  pub count : f′ 2 ≡ f 2
-  pub same : (q : ℕ) → lo ≤ q → q < 122 → f′ q ≡ f q
+  pub count : f′ entryCount ≡ f entryCount
+  pub same : (q : ℕ) → lo ≤ q → q < messagesAt → f′ q ≡ f q
 
 -- targets and their entries
-module _ (f f′ : Part) (quiet : Quiet 57 f f′) (few : f 2 ≤ 16) where
-  old : (q : ℕ) → q < f 2 → entryAt f′ q ≡ entryAt f q
-  old q lt = rw (quiet .same (74 + q) (omega arith) (omega arith), quiet .same (90 + q) (omega arith) (omega arith), quiet .same (106 + q) (omega arith) (omega arith))
+module _ (f f′ : Part) (quiet : Quiet marksAt f f′) (few : f entryCount ≤ entryMost) where
+  old : (q : ℕ) → q < f entryCount → entryAt f′ q ≡ entryAt f q
+  old q lt = rw (
+    quiet .same (targetsAt + q) (omega arith) (omega arith),
+    quiet .same (distancesAt + q) (omega arith) (omega arith),
+    quiet .same (hopsAt + q) (omega arith) (omega arith),
+  )
 
   tables : nodeOf f′ .table ≡ nodeOf f .table
-  tables = rw (quiet .count) (table-same f f′ (f 2) old)
+  tables = rw (quiet .count) (table-same f f′ (f entryCount) old)
 
   pub quiet-marks : Marks f → Marks f′
   quiet-marks c y lt =
       let a = c y lt in
-      let e : f′ (57 + y) ≡ f (57 + y) = quiet .same (57 + y) (omega arith) (omega arith) in
-      let m : marked f′ (f (57 + y)) ≡ marked f (f (57 + y)) = marked-same f f′ (f (57 + y)) (λ q l. old q (omega (arith, a .0))) in
+      let e : f′ (marksAt + y) ≡ f (marksAt + y) = quiet .same (marksAt + y) (omega arith) (omega arith) in
+      let m : marked f′ (f (marksAt + y)) ≡ marked f (f (marksAt + y)) =
+      marked-same f f′ (f (marksAt + y)) (λ q l. old q (omega (arith, a .0))) in
       (omega (arith, a .0, quiet .count), ap (find y) tables ∙ a .1 ∙ sym (ap (marked f′) e ∙ m))
 
 -- sums go by what stands in their places and by what was taken
-sums-same : (g : List ℕ) (i : ℕ) (ss : ℕ → List Msg) (f f′ : Part) → ((q : ℕ) → 23 ≤ q → q < 57 → f′ q ≡ f q) → Sums g i ss f → Sums g i ss f′
+sums-same : (g : List ℕ) (i : ℕ) (ss : ℕ → List Msg) (f f′ : Part) → ((q : ℕ) → takenAt ≤ q → q < marksAt → f′ q ≡ f q) → Sums g i ss f
+    → Sums g i ss f′
 sums-same g i ss f f′ same c h lt =
-    same (40 + h) (omega arith) (omega arith) ∙ c h lt
-    ∙ ap (λ (t : ℕ). sumOf (lenAt g i h) (item (oldest t (ss h)))) (row-at f 23 h lt ∙ sym (row-at f′ 23 h lt ∙ same (23 + h) (omega arith) (omega arith)))
+    same (sumsAt + h) (omega arith) (omega arith) ∙ c h lt
+    ∙ ap (λ (t : ℕ). sumOf (lenAt g i h) (item (oldest t (ss h))))
+    (row-at f takenAt h lt ∙ sym (row-at f′ takenAt h lt ∙ same (takenAt + h) (omega arith) (omega arith)))
 
 module _ (g : List ℕ) (i : ℕ) (ss : ℕ → List Msg) where
-  quiet-caches : (f f′ : Part) → Quiet 23 f f′ → f 2 ≤ 16 → Caches g i ss f → Last f′ → Caches g i ss f′
+  quiet-caches : (f f′ : Part) → Quiet takenAt f f′ → f entryCount ≤ entryMost → Caches g i ss f → Last f′ → Caches g i ss f′
   quiet-caches f f′ quiet few c last =
       record {
         last = last;
@@ -65,45 +75,59 @@ module _ (g : List ℕ) (i : ℕ) (ss : ℕ → List Msg) where
       }
 
   -- phase, or the head waited for
-  aside-caches : (f : Part) (o v : ℕ) → o < 6 → o ≢ 1 → o ≢ 2 → o ≢ 4 → f 2 ≤ 16 → Caches g i ss f → Caches g i ss (upd f o v)
+  aside-caches : (f : Part) (o v : ℕ) → o < deliveredAt → o ≢ sentCount → o ≢ entryCount → o ≢ lastAt → f entryCount ≤ entryMost
+      → Caches g i ss f → Caches g i ss (upd f o v)
   aside-caches f o v lt n1 n2 n4 few c =
-      quiet-caches f (upd f o v) (record { count = skip f o v 2 (λ e. n2 (sym e)); same = λ q lo hi. skip f o v q (omega arith) }) few c
-      (skip f o v 4 (λ e. n4 (sym e)) ∙ c .last ∙ sym (ap lastLen (sent-off f o v (λ e. n1 (sym e)) (λ q l. omega arith))))
+      quiet-caches f (upd f o v)
+      (record { count = skip f o v entryCount (λ e. n2 (sym e)); same = λ q lo hi. skip f o v q (omega arith) }) few c
+      (skip f o v lastAt (λ e. n4 (sym e)) ∙ c .last ∙ sym (ap lastLen (sent-off f o v (λ e. n1 (sym e)) (λ q l. omega arith))))
 
-  push-caches : (f : Part) (w : ℕ) → w ≤ 16 → f 2 ≤ 16 → Caches g i ss f → Caches g i ss (pushed f w)
+  push-caches : (f : Part) (w : ℕ) → w ≤ labelMost → f entryCount ≤ entryMost → Caches g i ss f → Caches g i ss (pushed f w)
   push-caches f w le few c =
-      quiet-caches f (pushed f w) (record { count = pushed-else f w 2 (omega arith) (omega arith); same = λ q lo hi. pushed-else f w q hi (omega arith) }) few c
-      (pushed-else f w 4 (omega arith) (omega arith) ∙ c .last ∙ sym (ap (λ (s : Site). lastLen (s .node .sent)) (push-site f w few) ∙ no-length (eqb w 0) refl))
+      quiet-caches f (pushed f w)
+      (record {
+        count = pushed-else f w entryCount (omega arith) (omega arith);
+        same = λ q lo hi. pushed-else f w q hi (omega arith);
+      }) few c
+      (pushed-else f w lastAt (omega arith) (omega arith) ∙ c .last
+      ∙ sym (ap (λ (s : Site). lastLen (s .node .sent)) (push-site f w few) ∙ no-length (eqb w 0) refl))
     where
-      no-length : (b : Bool) → eqb w 0 ≡ b → lastLen (msgOf w ∷ nodeOf f .sent) ≡ lastLen (nodeOf f .sent)
-      no-length true e = ap (λ (k : ℕ). lastLen (msgOf k ∷ nodeOf f .sent)) (eqb-true w 0 e)
-      no-length false e = let ne = eqb-false w 0 e in ap (λ (m : Msg). lastLen (m ∷ nodeOf f .sent)) (label-is w (omega arith) le)
+      no-length : (b : Bool) → eqb w 0 ≡ b → lastLen (msgOf (nodeOf f .sent) w ∷ nodeOf f .sent) ≡ lastLen (nodeOf f .sent)
+      no-length true e = ap (λ (k : ℕ). lastLen (msgOf (nodeOf f .sent) k ∷ nodeOf f .sent)) (eqb-true w 0 e)
+      no-length false e = let ne = eqb-false w 0 e in
+          ap (λ (m : Msg). lastLen (m ∷ nodeOf f .sent)) (label-is (nodeOf f .sent) w (omega arith) le)
 
-  length-caches : (f : Part) (x : ℕ) → f 2 ≤ 16 → Caches g i ss f → Caches g i ss (lengthSent f x)
-  length-caches f x few c =
+  length-caches : (f : Part) (x : ℕ) → f entryCount ≤ entryMost → f lastAt ≤ x → Caches g i ss f → Caches g i ss (lengthSent f x)
+  length-caches f x few le c =
       quiet-caches f (lengthSent f x)
-      (record { count = sent-else f x 2 (omega arith) (omega arith) (omega arith); same = λ q lo hi. sent-else f x q hi (omega arith) (omega arith) }) few c
-      (sent-last f x ∙ sym (ap (λ (s : Site). lastLen (s .node .sent)) (length-site f x few (c .last)) ∙ sendLen-last (nodeOf f .sent) x))
+      (record {
+        count = sent-else f x entryCount (omega arith) (omega arith) (omega arith);
+        same = λ q lo hi. sent-else f x q hi (omega arith) (omega arith);
+      }) few c
+      (sent-last f x ∙ sym (ap (λ (s : Site). lastLen (s .node .sent)) (length-site f x few (c .last) le)
+      ∙ sendLen-last (nodeOf f .sent) x))
 
-  note-caches : (f : Part) (y x h : ℕ) → f 2 < 16 → y < 17 → Caches g i ss f → Caches g i ss (noted f y x h)
+  note-caches : (f : Part) (y x h : ℕ) → f entryCount < entryMost → y < tableSize → Caches g i ss f → Caches g i ss (noted f y x h)
   note-caches f y x h few node c =
       record {
-        last = kept 4 (omega arith) (omega arith) (omega arith) ∙ c .last ∙ sym (ap lastLen (noted-sent f y x h few node));
+        last = kept lastAt (omega arith) (omega arith) (omega arith) ∙ c .last ∙ sym (ap lastLen (noted-sent f y x h few node));
         marks = λ z lt. marks z lt (eqb z y) refl;
         sums = sums-same g i ss f (noted f y x h) (λ q lo hi. kept q (omega arith) (omega arith) (omega arith)) (c .sums);
       }
     where
-      kept : (o : ℕ) → o < 57 → o ≢ 3 → o ≢ 2 → noted f y x h o ≡ f o
+      kept : (o : ℕ) → o < marksAt → o ≢ lpAt → o ≢ entryCount → noted f y x h o ≡ f o
       kept = noted-kept f y x h few node
 
       new : Filled
       new = record { target = y; distance = x; hop = h }
 
-      marks : (z : ℕ) → z < 17 → (b : Bool) → eqb z y ≡ b
-          → (noted f y x h (57 + z) ≤ noted f y x h 2) × (find z (nodeOf (noted f y x h) .table) ≡ marked (noted f y x h) (noted f y x h (57 + z)))
+      marks : (z : ℕ) → z < tableSize → (b : Bool) → eqb z y ≡ b
+          → (noted f y x h (marksAt + z) ≤ noted f y x h entryCount) × (find z (nodeOf (noted f y x h) .table) ≡ marked (noted f y x h)
+          (noted f y x h (marksAt + z)))
       marks z lt true e =
           let q : z ≡ y = eqb-true z y e in
-          let m : noted f y x h (57 + z) ≡ suc (f 2) = ap (λ (k : ℕ). noted f y x h (57 + k)) q ∙ noted-mark f y x h few node ∙ add-one (f 2) in (
+          let m : noted f y x h (marksAt + z) ≡ suc (f entryCount) = ap (λ (k : ℕ). noted f y x h (marksAt + k)) q
+          ∙ noted-mark f y x h few node ∙ add-one (f entryCount) in (
             omega (arith, m, noted-count f y x h few node),
             ap (find z) (noted-table f y x h few node) ∙ ap (λ (b : Bool). cond b (some new) (find z (nodeOf f .table))) e
                 ∙ sym (ap (marked (noted f y x h)) m ∙ ap some (noted-new f y x h few node)),
@@ -111,50 +135,63 @@ module _ (g : List ℕ) (i : ℕ) (ss : ℕ → List Msg) where
       marks z lt false e =
           let ne = eqb-false z y e in
           let a = c .marks z lt in
-          let m : noted f y x h (57 + z) ≡ f (57 + z) = noted-else f y x h (57 + z) (omega arith) (omega arith) (omega arith) (omega arith) (omega arith) (omega arith) in (
+          let m : noted f y x h (marksAt + z) ≡ f (marksAt + z) = noted-else f y x h (marksAt + z) (omega arith) (omega arith)
+          (omega arith) (omega arith) (omega arith) (omega arith) in (
             omega (arith, m, a .0, noted-count f y x h few node),
             ap (find z) (noted-table f y x h few node) ∙ ap (λ (b : Bool). cond b (some new) (find z (nodeOf f .table))) e ∙ a .1
-                ∙ sym (ap (marked (noted f y x h)) m ∙ marked-same f (noted f y x h) (f (57 + z)) (λ q l. noted-old f y x h few node q (omega (arith, a .0)))),
+                ∙ sym (ap (marked (noted f y x h)) m
+                ∙ marked-same f (noted f y x h) (f (marksAt + z)) (λ q l. noted-old f y x h few node q (omega (arith, a .0)))),
           )
 
   -- the rules' stores
-  pub wait-caches : (f : Part) (x h : ℕ) → f 2 ≤ 16 → Caches g i ss f → Caches g i ss (waited f x h)
+  pub wait-caches : (f : Part) (x h : ℕ) → f entryCount ≤ entryMost → f lastAt ≤ x → Caches g i ss f → Caches g i ss (waited f x h)
   unfolding waited
-  wait-caches f x h few c =
-      aside-caches (lengthSent f x) 5 h (omega arith) (omega arith) (omega arith) (omega arith)
-      (omega (arith, sent-else f x 2 (omega arith) (omega arith) (omega arith))) (length-caches f x few c)
+  wait-caches f x h few le c =
+      aside-caches (lengthSent f x) waitsAt h (omega arith) (omega arith) (omega arith) (omega arith)
+      (omega (arith, sent-else f x entryCount (omega arith) (omega arith) (omega arith))) (length-caches f x few le c)
 
-  pub stop-caches : (f : Part) → f 2 ≤ 16 → Caches g i ss f → Caches g i ss (stopped f)
+  pub stop-caches : (f : Part) → f entryCount ≤ entryMost → Caches g i ss f → Caches g i ss (stopped f)
   unfolding stopped
   stop-caches f few c =
-      aside-caches (pushed f 0) 0 2 (omega arith) (omega arith) (omega arith) (omega arith)
-      (omega (arith, pushed-else f 0 2 (omega arith) (omega arith))) (push-caches f 0 (omega arith) few c)
+      aside-caches (pushed f 0) phaseAt 2 (omega arith) (omega arith) (omega arith) (omega arith)
+      (omega (arith, pushed-else f 0 entryCount (omega arith) (omega arith))) (push-caches f 0 (omega arith) few c)
 
-  pub fill-caches : (f : Part) (h x y : ℕ) → f 2 < 16 → y ≤ 16 → Caches g i ss f → Caches g i ss (filled f h x y)
+  pub fill-caches : (f : Part) (h x y : ℕ) → f entryCount < entryMost → y ≤ labelMost → f lastAt ≤ x → Caches g i ss f
+      → Caches g i ss (filled f h x y)
   unfolding filled
-  fill-caches f h x y few le c =
-      let e = sent-else f x 2 (omega arith) (omega arith) (omega arith) in
-      note-caches (pushed (lengthSent f x) y) y x h (omega (arith, e, pushed-else (lengthSent f x) y 2 (omega arith) (omega arith))) (omega arith)
-      (push-caches (lengthSent f x) y le (omega (arith, e)) (length-caches f x (omega arith) c))
+  fill-caches f h x y few le up c =
+      let e = sent-else f x entryCount (omega arith) (omega arith) (omega arith) in
+      note-caches (pushed (lengthSent f x) y) y x h
+      (omega (arith, e, pushed-else (lengthSent f x) y entryCount (omega arith) (omega arith))) (omega arith)
+      (push-caches (lengthSent f x) y le (omega (arith, e)) (length-caches f x (omega arith) up c))
 
-  pub begin-caches : (f : Part) (k : ℕ) → f 2 ≡ 0 → k ≤ 16 → Caches g i ss f → Caches g i ss (begun f k)
+  pub begin-caches : (f : Part) (k : ℕ) → f entryCount ≡ 0 → k ≤ labelMost → Caches g i ss f → Caches g i ss (begun f k)
   unfolding begun
   begin-caches f k empty le c =
-      let few : pushed f k 2 < 16 = omega (arith, pushed-else f k 2 (omega arith) (omega arith)) in
-      aside-caches (noted (pushed f k) k 0 0) 0 1 (omega arith) (omega arith) (omega arith) (omega arith) (omega (arith, noted-count (pushed f k) k 0 0 few (omega arith)))
+      let few : pushed f k entryCount < entryMost = omega (arith, pushed-else f k entryCount (omega arith) (omega arith)) in
+      aside-caches (noted (pushed f k) k 0 0) phaseAt 1 (omega arith) (omega arith) (omega arith) (omega arith)
+      (omega (arith, noted-count (pushed f k) k 0 0 few (omega arith)))
       (note-caches (pushed f k) k 0 0 few (omega arith) (push-caches f k le (omega arith) c))
 
-  pub hand-caches : (f : Part) (h : ℕ) → h < 17 → f 2 ≤ 16 → Caches g i ss f → Caches g i ss (counted f (6 + h))
+  pub hand-caches : (f : Part) (h : ℕ) → h < tableSize → f entryCount ≤ entryMost → Caches g i ss f
+      → Caches g i ss (counted f (deliveredAt + h))
   unfolding counted
   hand-caches f h lt few c =
-      let v = f (6 + h) + 1 in
-      quiet-caches f (upd f (6 + h) v) (record { count = skip f (6 + h) v 2 (omega arith); same = λ q lo hi. skip f (6 + h) v q (omega arith) }) few c
-      (skip f (6 + h) v 4 (omega arith) ∙ c .last ∙ sym (ap lastLen (sent-off f (6 + h) v (omega arith) (λ q l. omega arith))))
+      let v = f (deliveredAt + h) + 1 in
+      quiet-caches f (upd f (deliveredAt + h) v)
+      (record {
+        count = skip f (deliveredAt + h) v entryCount (omega arith);
+        same = λ q lo hi. skip f (deliveredAt + h) v q (omega arith);
+      }) few c
+      (skip f (deliveredAt + h) v lastAt (omega arith) ∙ c .last
+      ∙ sym (ap lastLen (sent-off f (deliveredAt + h) v (omega arith) (λ q l. omega arith))))
 
   -- A message is taken on the arc to h, and v is the arc's sum then.
-  module _ (f f′ : Part) (h : ℕ) (head : h < 17) (few : f 2 ≤ 16) (c : Caches g i ss f) (lt : row f 23 h < length (ss h)) where
-    pub took-caches : siteOf f′ ≡ tookOne (siteOf f) h (nodeOf f) → f′ 2 ≡ f 2 → f′ 4 ≡ f 4 → ((q : ℕ) → 40 ≤ q → q < 122 → q ≢ 40 + h → f′ q ≡ f q)
-        → f′ (40 + h) ≡ sumOf (lenAt g i h) (item (sentAfter (row f 23 h) (ss h) ∷ heard ss (siteOf f) h)) → Caches g i ss f′
+  module _ (f f′ : Part) (h : ℕ) (head : h < tableSize) (few : f entryCount ≤ entryMost) (c : Caches g i ss f)
+      (lt : row f takenAt h < length (ss h)) where
+    pub took-caches : siteOf f′ ≡ tookOne (siteOf f) h (nodeOf f) → f′ entryCount ≡ f entryCount → f′ lastAt ≡ f lastAt
+        → ((q : ℕ) → sumsAt ≤ q → q < messagesAt → q ≢ sumsAt + h → f′ q ≡ f q)
+        → f′ (sumsAt + h) ≡ sumOf (lenAt g i h) (item (sentAfter (row f takenAt h) (ss h) ∷ heard ss (siteOf f) h)) → Caches g i ss f′
     took-caches site count last same sum =
         record {
           last = last ∙ c .last ∙ sym (ap (λ (s : Site). lastLen (s .node .sent)) site);
@@ -162,17 +199,20 @@ module _ (g : List ℕ) (i : ℕ) (ss : ℕ → List Msg) where
           sums = λ k l. sums k l (eqb k h) refl;
         }
       where
-        taken : heard ss (siteOf f′) ≡ with (heard ss (siteOf f)) h (sentAfter (row f 23 h) (ss h))
+        taken : heard ss (siteOf f′) ≡ with (heard ss (siteOf f)) h (sentAfter (row f takenAt h) (ss h))
         taken = ap (heard ss) site ∙ heard-took (siteOf f) h (nodeOf f) ss lt
 
-        sums : (k : ℕ) → k < 17 → (b : Bool) → eqb k h ≡ b → f′ (40 + k) ≡ sumOf (lenAt g i k) (item (heard ss (siteOf f′) k))
+        sums : (k : ℕ) → k < tableSize → (b : Bool) → eqb k h ≡ b → f′ (sumsAt + k) ≡ sumOf (lenAt g i k) (item (heard ss (siteOf f′) k))
         sums k l true e =
             let q : h ≡ k = sym (eqb-true k h e) in
-            subst (λ (n : ℕ). f′ (40 + n) ≡ sumOf (lenAt g i n) (item (heard ss (siteOf f′) n))) q
+            subst (λ (n : ℕ). f′ (sumsAt + n) ≡ sumOf (lenAt g i n) (item (heard ss (siteOf f′) n))) q
             (sum ∙ ap (λ (t : List Msg). sumOf (lenAt g i h) (item t))
-            (sym (ap (λ (T : ℕ → List Msg). T h) taken ∙ ap (λ (b : Bool). cond b (sentAfter (row f 23 h) (ss h) ∷ heard ss (siteOf f) h) (heard ss (siteOf f) h)) (eq-eqb h h refl))))
+            (sym (ap (λ (T : ℕ → List Msg). T h) taken
+            ∙ ap (λ (b : Bool). cond b (sentAfter (row f takenAt h) (ss h) ∷ heard ss (siteOf f) h) (heard ss (siteOf f) h))
+            (eq-eqb h h refl))))
         sums k l false e =
             let ne = eqb-false k h e in
-            same (40 + k) (omega arith) (omega arith) (omega arith) ∙ c .sums k l
+            same (sumsAt + k) (omega arith) (omega arith) (omega arith) ∙ c .sums k l
             ∙ ap (λ (t : List Msg). sumOf (lenAt g i k) (item t))
-            (sym (ap (λ (T : ℕ → List Msg). T k) taken ∙ ap (λ (b : Bool). cond b (sentAfter (row f 23 h) (ss h) ∷ heard ss (siteOf f) k) (heard ss (siteOf f) k)) e))
+            (sym (ap (λ (T : ℕ → List Msg). T k) taken
+            ∙ ap (λ (b : Bool). cond b (sentAfter (row f takenAt h) (ss h) ∷ heard ss (siteOf f) k) (heard ss (siteOf f) k)) e))

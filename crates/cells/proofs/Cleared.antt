@@ -1,15 +1,17 @@
 -- Clearing the parts, number by number and part by part.
 -- Assumes nothing.
 use mathlib.Core.Path.{_≡_, refl, sym, ap, _∙_, fun-ext}
+use mathlib.Core.Logic.{_≢_}
 use mathlib.Core.Bool.{Bool, true, false, cond}
 use mathlib.Core.List.{List}
-use Prim.Native.Nat.{ℕ, _+_, _-_}
+use Prim.Native.Nat.{ℕ, zero, suc, _+_, _-_}
 use native.Mathlib.Omega.{arith}
+use native.Mathlib.Numerals.{add-one}
 use lib.Dec.{ltb, eqb}
-use borrow.Author.Tests.{ltb-true, ltb-false, eqb-true, eqb-false, lt-ltb, le-ltb, eq-eqb, ne-eqb}
+use borrow.Author.Tests.{ltb-true, ltb-false, eqb-true, eqb-false, lt-ltb, le-ltb}
 use Rattle.method.specs.Message.{finite}
 use Rattle.network.specs.Layout.{lenAt}
-use Rattle.cells.specs.Part.{Part, sumsAt, targetsAt, sumOf}
+use Rattle.cells.specs.Part.{Part, tableSize, sumsAt, targetsAt, noSum, sumOf}
 use Rattle.cells.specs.Stores.{upd, Stored, zeroed, laidOut, cleared}
 use Rattle.cells.proofs.Stored.{named, kept, then}
 
@@ -28,7 +30,8 @@ zeroed-next f k = fun-ext (λ q. go q (eqb q k) refl (ltb q k) refl)
 pub zero-first : (m : ℕ → Part) (i : ℕ) → Stored m i (zeroed (m i) 0) m
 zero-first m i = named (fun-ext (λ q. rw (le-ltb q 0 (omega arith)))) (kept m i)
 
-pub zero-next : {m n r : ℕ → Part} {i : ℕ} (k : ℕ) → Stored m i (zeroed (m i) k) n → Stored n i (upd (n i) k 0) r → Stored m i (zeroed (m i) (k + 1)) r
+pub zero-next : {m n r : ℕ → Part} {i : ℕ} (k : ℕ) → Stored m i (zeroed (m i) k) n → Stored n i (upd (n i) k 0) r
+    → Stored m i (zeroed (m i) (k + 1)) r
 zero-next {m} {n} {r} {i} k e d = named (zeroed-next (m i) k) (then (λ g. upd g k 0) e d)
 
 -- one sum more
@@ -37,7 +40,8 @@ module _ (g : List ℕ) (i : ℕ) where
   laid-next f k v e = fun-ext (λ q. go q (eqb q (sumsAt + k)) refl (ltb q sumsAt) refl (ltb q (sumsAt + k)) refl)
     where
       go : (q : ℕ) (a : Bool) → eqb q (sumsAt + k) ≡ a → (b : Bool) → ltb q sumsAt ≡ b → (c : Bool) → ltb q (sumsAt + k) ≡ c
-          → cond a v (cond b (f q) (cond c (sumOf (lenAt g i (q - sumsAt)) (finite 0)) (f q))) ≡ cond b (f q) (cond (ltb q (sumsAt + (k + 1))) (sumOf (lenAt g i (q - sumsAt)) (finite 0)) (f q))
+          → cond a v (cond b (f q) (cond c (sumOf (lenAt g i (q - sumsAt)) (finite 0)) (f q))) ≡ cond b (f q)
+          (cond (ltb q (sumsAt + (k + 1))) (sumOf (lenAt g i (q - sumsAt)) (finite 0)) (f q))
       go q true ea true eb c ec = absurd (omega (arith, eqb-true q (sumsAt + k) ea, ltb-true q sumsAt eb))
       go q true ea false eb c ec =
           let z : q - sumsAt ≡ k = omega (arith, eqb-true q (sumsAt + k) ea) in
@@ -52,7 +56,8 @@ module _ (g : List ℕ) (i : ℕ) where
   pub lay-first : (m : ℕ → Part) → Stored m i (laidOut g i (m i) 0) m
   lay-first m = named (fun-ext (λ q. go q (ltb q sumsAt) refl)) (kept m i)
     where
-      go : (q : ℕ) (b : Bool) → ltb q sumsAt ≡ b → m i q ≡ cond b (m i q) (cond (ltb q (sumsAt + 0)) (sumOf (lenAt g i (q - sumsAt)) (finite 0)) (m i q))
+      go : (q : ℕ) (b : Bool) → ltb q sumsAt ≡ b
+          → m i q ≡ cond b (m i q) (cond (ltb q (sumsAt + 0)) (sumOf (lenAt g i (q - sumsAt)) (finite 0)) (m i q))
       go q true e = refl
       go q false e = rw (le-ltb q (sumsAt + 0) (omega (arith, ltb-false q sumsAt e)))
 
@@ -62,34 +67,50 @@ module _ (g : List ℕ) (i : ℕ) where
 
 -- one part more
 pub clear-first : (g : List ℕ) (m : ℕ → Part) → m ≡ cleared g m 0
-clear-first g m = fun-ext (λ j. rw (le-ltb j 0 (omega arith)))
+clear-first g m = fun-ext go
+  where
+    go : (j : ℕ) → m j ≡ cleared g m 0 j
+    go zero = refl
+    go (suc j) = rw (le-ltb j 0 (omega arith))
 
 pub clear-next : (g : List ℕ) (i : ℕ) (m : ℕ → Part) {n r t : ℕ → Part} → n ≡ cleared g m i
-    → Stored n i (zeroed (n i) targetsAt) r → Stored r i (laidOut g i (r i) 17) t → t ≡ cleared g m (i + 1)
-clear-next g i m {n} {r} {t} e z d = fun-ext (λ j. go j (eqb j i) refl (ltb j i) refl)
+    → Stored n (i + 1) (zeroed (n (i + 1)) targetsAt) r → Stored r (i + 1) (laidOut g (i + 1) (r (i + 1)) tableSize) t
+    → t ≡ cleared g m (i + 1)
+clear-next g i m {n} {r} {t} e z d = fun-ext part
   where
-    own : n i ≡ m i
-    own = ap (λ (k : ℕ → Part). k i) e ∙ rw (le-ltb i i (omega arith))
+    was : (j : ℕ) → n j ≡ cleared g m i j
+    was j = ap (λ (k : ℕ → Part). k j) e
 
-    here : t i ≡ laidOut g i (zeroed (m i) targetsAt) 17
-    here = d .here ∙ ap (λ (f : Part). laidOut g i f 17) (z .here ∙ ap (λ (f : Part). zeroed f targetsAt) own)
+    kept-there : (j : ℕ) → j ≢ i + 1 → t j ≡ cleared g m i j
+    kept-there j ne = d .there j ne ∙ z .there j ne ∙ was j
 
-    go : (j : ℕ) (a : Bool) → eqb j i ≡ a → (b : Bool) → ltb j i ≡ b → t j ≡ cleared g m (i + 1) j
+    own : n (i + 1) ≡ m (i + 1)
+    own = ap n (add-one i) ∙ was (suc i) ∙ rw (le-ltb i i (omega arith)) (ap m (sym (add-one i)))
+
+    here : t (i + 1) ≡ laidOut g (i + 1) (zeroed (m (i + 1)) targetsAt) tableSize
+    here = d .here ∙ ap (λ (f : Part). laidOut g (i + 1) f tableSize) (z .here ∙ ap (λ (f : Part). zeroed f targetsAt) own)
+
+    go : (j : ℕ) (a : Bool) → eqb j i ≡ a → (b : Bool) → ltb j i ≡ b → t (suc j) ≡ cleared g m (i + 1) (suc j)
     go j true ea b eb =
-        let q : j ≡ i = eqb-true j i ea in
-        ap t q ∙ here ∙ ap (λ (k : ℕ). laidOut g k (zeroed (m k) targetsAt) 17) (sym q) ∙ rw (lt-ltb j (i + 1) (omega arith))
+        let q : suc j ≡ i + 1 = omega (arith, eqb-true j i ea) in
+        ap t q ∙ here ∙ ap (λ (k : ℕ). laidOut g k (zeroed (m k) targetsAt) tableSize) (sym q) ∙ rw (lt-ltb j (i + 1) (omega arith))
     go j false ea true eb =
+        let ne = eqb-false j i ea in
         let lt = ltb-true j i eb in
-        d .there j (eqb-false j i ea) ∙ z .there j (eqb-false j i ea) ∙ ap (λ (k : ℕ → Part). k j) e
-        ∙ rw (lt-ltb j i lt, lt-ltb j (i + 1) (omega arith))
+        kept-there (suc j) (λ q. ne (omega arith)) ∙ rw (lt-ltb j i lt, lt-ltb j (i + 1) (omega arith))
     go j false ea false eb =
         let ne = eqb-false j i ea in
         let le = ltb-false j i eb in
-        d .there j ne ∙ z .there j ne ∙ ap (λ (k : ℕ → Part). k j) e ∙ rw (le-ltb j i le, le-ltb j (i + 1) (omega arith))
+        kept-there (suc j) (λ q. ne (omega arith)) ∙ rw (le-ltb j i le, le-ltb j (i + 1) (omega arith))
+
+    part : (j : ℕ) → t j ≡ cleared g m (i + 1) j
+    part zero = kept-there zero (λ q. omega arith)
+    part (suc j) = go j (eqb j i) refl (ltb j i) refl
 
 -- the first sum of an arc, or of none
-pub no-arc-sum : {l r : ℕ} → r ≡ l → r ≡ 255 → 65535 ≡ sumOf l (finite 0)
-no-arc-sum {l} {r} q e = rw (eq-eqb l 255 (sym q ∙ e))
-
-pub arc-sum : {l r : ℕ} → r ≡ l → (r ≡ 255 → ⊥) → r ≡ sumOf l (finite 0)
-arc-sum {l} {r} q ne = rw (ne-eqb l 255 (λ w. ne (q ∙ w))) (omega arith)
+pub first-sum : (l : ℕ) → l ≡ sumOf l (finite 0)
+first-sum l = go (eqb l noSum) refl
+  where
+    go : (b : Bool) → eqb l noSum ≡ b → l ≡ cond b noSum (l + 0)
+    go true e = eqb-true l noSum e
+    go false e = omega arith

@@ -1,43 +1,62 @@
 -- A store in the list is a store in a part, and stores one after another are the twins of specs/Stores.
 -- Assumes nothing.
-use mathlib.Core.Path.{_≡_, refl, sym, ap, _∙_, fun-ext}
+use mathlib.Core.Path.{_≡_, refl, sym, ap, subst, _∙_, fun-ext}
 use mathlib.Core.Logic.{_≢_}
 use mathlib.Core.Bool.{Bool, true, false, cond}
 use mathlib.Core.List.{List}
-use Prim.Native.Nat.{ℕ, _+_, _*_, _≤_, _<_}
+use Prim.Native.Nat.{ℕ, zero, suc, _+_, _-_, _*_, _≤_, _<_}
 use native.Mathlib.Omega.{arith}
 use lib.Dec.{ltb, eqb}
 use lib.ListN.{length, getD, set}
 use lib.Seq.{getD-set-same, getD-set-other}
 use borrow.Author.Tests.{ltb-true, ltb-false, eqb-true, eqb-false, lt-ltb, eq-eqb, ne-eqb}
-use Rattle.cells.specs.Part.{Part, partSize, stateSize, cells}
+use Rattle.cells.specs.Part.{Part, tableSize, labelMost, nodesMost, phaseAt, sentCount, entryCount, lpAt, lastAt, waitsAt, marksAt}
+use Rattle.cells.specs.Part.{targetsAt, distancesAt, hopsAt, messagesAt, partSize, stateSize, cells}
 use Rattle.cells.specs.Stores.{upd, Stored, counted, pushed, lengthSent, waited, noted, filled, stopped, begun}
 
 -- a load
-pub cell-is : (l : List ℕ) (i o : ℕ) → o < partSize → getD l (i * partSize + o) 0 ≡ cells l i o
-cell-is l i o lt = rw (lt-ltb o partSize lt)
+pub cell-is : (l : List ℕ) (i o : ℕ) → 1 ≤ i → o < partSize → getD l ((i - 1) * partSize + o) 0 ≡ cells l i o
+cell-is l zero o pos lt = absurd (omega arith)
+cell-is l (suc i) o pos lt =
+    let e : suc i - 1 ≡ i = omega arith in
+    ap (λ (k : ℕ). getD l (k * partSize + o) 0) e ∙ sym (ap (λ (b : Bool). cond b (getD l (i * partSize + o) 0) 0) (lt-ltb o partSize lt))
 
 -- a store
-pub store : (l : List ℕ) (i o v : ℕ) → length l ≡ stateSize → i < 17 → o < partSize
-    → Stored (cells l) i (upd (cells l i) o v) (cells (set l (i * partSize + o) v))
-store l i o v size node place = record { here = fun-ext (λ q. at q (ltb q partSize) refl (eqb q o) refl); there = λ j ne. fun-ext (λ q. off j ne q (ltb q partSize) refl) }
-  where
-    at : (q : ℕ) (a : Bool) → ltb q partSize ≡ a → (b : Bool) → eqb q o ≡ b
-        → cond a (getD (set l (i * partSize + o) v) (i * partSize + q) 0) 0 ≡ cond b v (cond a (getD l (i * partSize + q) 0) 0)
-    at q true ea true eb =
-        let e : q ≡ o = eqb-true q o eb in
-        let lt : i * partSize + o < length l = omega arith in
-        ap (λ (k : ℕ). getD (set l (i * partSize + o) v) (i * partSize + k) 0) e ∙ getD-set-same l (i * partSize + o) v 0 lt
-    at q true ea false eb =
-        let ne : q ≢ o = eqb-false q o eb in
-        getD-set-other l (i * partSize + o) (i * partSize + q) v 0 (omega arith)
-    at q false ea true eb = absurd (omega (arith, ltb-false q partSize ea, eqb-true q o eb))
-    at q false ea false eb = refl
+module _ (l : List ℕ) (i o v : ℕ) (size : length l ≡ stateSize) (node : i < nodesMost) (place : o < partSize) where
+  abbrev after : List ℕ
+  after = set l (i * partSize + o) v
 
-    off : (j : ℕ) → j ≢ i → (q : ℕ) (a : Bool) → ltb q partSize ≡ a
-        → cond a (getD (set l (i * partSize + o) v) (j * partSize + q) 0) 0 ≡ cond a (getD l (j * partSize + q) 0) 0
-    off j ne q true ea = let lt = ltb-true q partSize ea in getD-set-other l (i * partSize + o) (j * partSize + q) v 0 (omega arith)
-    off j ne q false ea = refl
+  at-own : (q : ℕ) (a : Bool) → ltb q partSize ≡ a → (b : Bool) → eqb q o ≡ b
+      → cond a (getD after (i * partSize + q) 0) 0 ≡ cond b v (cond a (getD l (i * partSize + q) 0) 0)
+  at-own q true ea true eb =
+      let e : q ≡ o = eqb-true q o eb in
+      let lt : i * partSize + o < length l = omega arith in
+      ap (λ (k : ℕ). getD after (i * partSize + k) 0) e ∙ getD-set-same l (i * partSize + o) v 0 lt
+  at-own q true ea false eb =
+      let ne : q ≢ o = eqb-false q o eb in
+      getD-set-other l (i * partSize + o) (i * partSize + q) v 0 (omega arith)
+  at-own q false ea true eb = absurd (omega (arith, ltb-false q partSize ea, eqb-true q o eb))
+  at-own q false ea false eb = refl
+
+  at-other : (j : ℕ) → j ≢ i → (q : ℕ) (a : Bool) → ltb q partSize ≡ a
+      → cond a (getD after (j * partSize + q) 0) 0 ≡ cond a (getD l (j * partSize + q) 0) 0
+  at-other j ne q true ea = let lt = ltb-true q partSize ea in getD-set-other l (i * partSize + o) (j * partSize + q) v 0 (omega arith)
+  at-other j ne q false ea = refl
+
+  off : (j : ℕ) → j ≢ suc i → cells after j ≡ cells l j
+  off zero ne = refl
+  off (suc j) ne = fun-ext (λ q. at-other j (λ e. ne (ap suc e)) q (ltb q partSize) refl)
+
+  stored : Stored (cells l) (suc i) (upd (cells l (suc i)) o v) (cells after)
+  stored = record { here = fun-ext (λ q. at-own q (ltb q partSize) refl (eqb q o) refl); there = off }
+
+pub store : (l : List ℕ) (i o v : ℕ) → length l ≡ stateSize → 1 ≤ i → i < tableSize → o < partSize
+    → Stored (cells l) i (upd (cells l i) o v) (cells (set l ((i - 1) * partSize + o) v))
+store l zero o v size pos node place = absurd (omega arith)
+store l (suc i) o v size pos node place =
+    let e : suc i - 1 ≡ i = omega arith in
+    subst (λ (k : ℕ). Stored (cells l) (suc i) (upd (cells l (suc i)) o v) (cells (set l (k * partSize + o) v))) (sym e)
+    (stored l i o v size (omega arith) place)
 
 -- nothing stored, and one store after another
 pub kept : (m : ℕ → Part) (i : ℕ) → Stored m i (m i) m
@@ -59,73 +78,84 @@ module _ {m : ℕ → Part} {i : ℕ} where
   unfolding counted
   count-law o k q e = named (ap (λ (x : ℕ). upd (m i) o (x + 1)) q) e
 
-  pub push-law : {n r : ℕ → Part} (w k : ℕ) → k ≡ m i 1 → Stored m i (upd (m i) (122 + k) w) n → Stored n i (upd (n i) 1 (k + 1)) r
+  pub push-law : {n r : ℕ → Part} (w k : ℕ) → k ≡ m i sentCount → Stored m i (upd (m i) (messagesAt + k) w) n
+      → Stored n i (upd (n i) sentCount (k + 1)) r
       → Stored m i (pushed (m i) w) r
   unfolding pushed
-  push-law w k q e d = named (ap (λ (x : ℕ). upd (upd (m i) (122 + x) w) 1 (x + 1)) q) (then (λ g. upd g 1 (k + 1)) e d)
+  push-law w k q e d = named (ap (λ (x : ℕ). upd (upd (m i) (messagesAt + x) w) sentCount (x + 1)) q)
+      (then (λ g. upd g sentCount (k + 1)) e d)
 
-  pub send-law : {n r : ℕ → Part} (x k : ℕ) → k ≡ m i 4 → k ≢ x → Stored m i (pushed (m i) (17 + x)) n → Stored n i (upd (n i) 4 x) r
+  pub send-law : {n r : ℕ → Part} (x k : ℕ) → k ≡ m i lastAt → k ≢ x → Stored m i (pushed (m i) (labelMost + (x - k))) n
+      → Stored n i (upd (n i) lastAt x) r
       → Stored m i (lengthSent (m i) x) r
   unfolding lengthSent
-  send-law x k q ne e d = named (rw (ne-eqb (m i 4) x (λ w. ne (q ∙ w)))) (then (λ g. upd g 4 x) e d)
+  send-law x k q ne e d =
+      named (rw (ne-eqb (m i lastAt) x (λ w. ne (q ∙ w))) (ap (λ (z : ℕ). upd (pushed (m i) (labelMost + (x - z))) lastAt x) q))
+      (then (λ g. upd g lastAt x) e d)
 
-  pub unsent-law : (x k : ℕ) → k ≡ m i 4 → k ≡ x → Stored m i (lengthSent (m i) x) m
+  pub unsent-law : (x k : ℕ) → k ≡ m i lastAt → k ≡ x → Stored m i (lengthSent (m i) x) m
   unfolding lengthSent
-  unsent-law x k q e = named (rw (eq-eqb (m i 4) x (sym q ∙ e))) (kept m i)
+  unsent-law x k q e = named (rw (eq-eqb (m i lastAt) x (sym q ∙ e))) (kept m i)
 
-  pub wait-law : {n r : ℕ → Part} (x h : ℕ) → Stored m i (lengthSent (m i) x) n → Stored n i (upd (n i) 5 h) r → Stored m i (waited (m i) x h) r
+  pub wait-law : {n r : ℕ → Part} (x h : ℕ) → Stored m i (lengthSent (m i) x) n → Stored n i (upd (n i) waitsAt h) r
+      → Stored m i (waited (m i) x h) r
   unfolding waited
-  wait-law x h e d = then (λ g. upd g 5 h) e d
+  wait-law x h e d = then (λ g. upd g waitsAt h) e d
 
-  pub note-law : {m₁ m₂ m₃ m₄ m₅ r : ℕ → Part} (y x h k : ℕ) → k ≡ m i 2
-      → Stored m i (upd (m i) (74 + k) y) m₁ → Stored m₁ i (upd (m₁ i) (90 + k) x) m₂ → Stored m₂ i (upd (m₂ i) (106 + k) h) m₃
-      → Stored m₃ i (upd (m₃ i) (57 + y) (k + 1)) m₄ → Stored m₄ i (upd (m₄ i) 2 (k + 1)) m₅ → Stored m₅ i (upd (m₅ i) 3 x) r
+  pub note-law : {m₁ m₂ m₃ m₄ m₅ r : ℕ → Part} (y x h k : ℕ) → k ≡ m i entryCount
+      → Stored m i (upd (m i) (targetsAt + k) y) m₁ → Stored m₁ i (upd (m₁ i) (distancesAt + k) x) m₂
+      → Stored m₂ i (upd (m₂ i) (hopsAt + k) h) m₃
+      → Stored m₃ i (upd (m₃ i) (marksAt + y) (k + 1)) m₄ → Stored m₄ i (upd (m₄ i) entryCount (k + 1)) m₅
+      → Stored m₅ i (upd (m₅ i) lpAt x) r
       → Stored m i (noted (m i) y x h) r
   unfolding noted
   note-law y x h k q e₁ e₂ e₃ e₄ e₅ e₆ =
-      named (ap (λ (z : ℕ). upd (upd (upd (upd (upd (upd (m i) (74 + z) y) (90 + z) x) (106 + z) h) (57 + y) (z + 1)) 2 (z + 1)) 3 x) q)
-      (then (λ g. upd g 3 x) (then (λ g. upd g 2 (k + 1)) (then (λ g. upd g (57 + y) (k + 1))
-      (then (λ g. upd g (106 + k) h) (then (λ g. upd g (90 + k) x) e₁ e₂) e₃) e₄) e₅) e₆)
+      named (ap (λ (z : ℕ). upd
+      (upd (upd (upd (upd (upd (m i) (targetsAt + z) y) (distancesAt + z) x) (hopsAt + z) h) (marksAt + y) (z + 1)) entryCount
+      (z + 1)) lpAt x) q)
+      (then (λ g. upd g lpAt x) (then (λ g. upd g entryCount (k + 1)) (then (λ g. upd g (marksAt + y) (k + 1))
+      (then (λ g. upd g (hopsAt + k) h) (then (λ g. upd g (distancesAt + k) x) e₁ e₂) e₃) e₄) e₅) e₆)
 
   pub fill-law : {m₁ m₂ r : ℕ → Part} (h x y : ℕ) → Stored m i (lengthSent (m i) x) m₁ → Stored m₁ i (pushed (m₁ i) y) m₂
       → Stored m₂ i (noted (m₂ i) y x h) r → Stored m i (filled (m i) h x y) r
   unfolding filled
   fill-law h x y e₁ e₂ e₃ = then (λ g. noted g y x h) (then (λ g. pushed g y) e₁ e₂) e₃
 
-  pub stop-law : {n r : ℕ → Part} → Stored m i (pushed (m i) 0) n → Stored n i (upd (n i) 0 2) r → Stored m i (stopped (m i)) r
+  pub stop-law : {n r : ℕ → Part} → Stored m i (pushed (m i) 0) n → Stored n i (upd (n i) phaseAt 2) r → Stored m i (stopped (m i)) r
   unfolding stopped
-  stop-law e d = then (λ g. upd g 0 2) e d
+  stop-law e d = then (λ g. upd g phaseAt 2) e d
 
-  pub begin-law : {m₁ m₂ r : ℕ → Part} → Stored m i (pushed (m i) i) m₁ → Stored m₁ i (noted (m₁ i) i 0 0) m₂ → Stored m₂ i (upd (m₂ i) 0 1) r
+  pub begin-law : {m₁ m₂ r : ℕ → Part} → Stored m i (pushed (m i) i) m₁ → Stored m₁ i (noted (m₁ i) i 0 0) m₂
+      → Stored m₂ i (upd (m₂ i) phaseAt 1) r
       → Stored m i (begun (m i) i) r
   unfolding begun
-  begin-law e₁ e₂ e₃ = then (λ g. upd g 0 1) (then (λ g. noted g i 0 0) e₁ e₂) e₃
+  begin-law e₁ e₂ e₃ = then (λ g. upd g phaseAt 1) (then (λ g. noted g i 0 0) e₁ e₂) e₃
 
 -- what sending leaves as it was
-pub pushed-else : (f : Part) (w o : ℕ) → o < 122 → o ≢ 1 → pushed f w o ≡ f o
+pub pushed-else : (f : Part) (w o : ℕ) → o < messagesAt → o ≢ sentCount → pushed f w o ≡ f o
 unfolding pushed
-pushed-else f w o lt ne = rw (ne-eqb o 1 ne, ne-eqb o (122 + f 1) (omega arith))
+pushed-else f w o lt ne = rw (ne-eqb o sentCount ne, ne-eqb o (messagesAt + f sentCount) (omega arith))
 
-pub sent-else : (f : Part) (x o : ℕ) → o < 122 → o ≢ 1 → o ≢ 4 → lengthSent f x o ≡ f o
+pub sent-else : (f : Part) (x o : ℕ) → o < messagesAt → o ≢ sentCount → o ≢ lastAt → lengthSent f x o ≡ f o
 unfolding lengthSent
-sent-else f x o lt n1 n4 = go (eqb (f 4) x)
+sent-else f x o lt n1 n4 = go (eqb (f lastAt) x)
   where
-    go : (b : Bool) → cond b f (upd (pushed f (17 + x)) 4 x) o ≡ f o
+    go : (b : Bool) → cond b f (upd (pushed f (labelMost + (x - f lastAt))) lastAt x) o ≡ f o
     go true = refl
-    go false = rw (ne-eqb o 4 n4) (pushed-else f (17 + x) o lt n1)
+    go false = rw (ne-eqb o lastAt n4) (pushed-else f (labelMost + (x - f lastAt)) o lt n1)
 
-pub sent-count : (f : Part) (x : ℕ) → lengthSent f x 1 ≤ f 1 + 1
+pub sent-count : (f : Part) (x : ℕ) → lengthSent f x sentCount ≤ f sentCount + 1
 unfolding lengthSent pushed
-sent-count f x = go (eqb (f 4) x)
+sent-count f x = go (eqb (f lastAt) x)
   where
-    go : (b : Bool) → cond b f (upd (pushed f (17 + x)) 4 x) 1 ≤ f 1 + 1
+    go : (b : Bool) → cond b f (upd (pushed f (labelMost + (x - f lastAt))) lastAt x) sentCount ≤ f sentCount + 1
     go true = omega arith
     go false = omega arith
 
-pub waited-else : (f : Part) (x h o : ℕ) → o < 122 → o ≢ 1 → o ≢ 4 → o ≢ 5 → waited f x h o ≡ f o
+pub waited-else : (f : Part) (x h o : ℕ) → o < messagesAt → o ≢ sentCount → o ≢ lastAt → o ≢ waitsAt → waited f x h o ≡ f o
 unfolding waited
-waited-else f x h o lt n1 n4 n5 = rw (ne-eqb o 5 n5) (sent-else f x o lt n1 n4)
+waited-else f x h o lt n1 n4 n5 = rw (ne-eqb o waitsAt n5) (sent-else f x o lt n1 n4)
 
-pub waited-head : (f : Part) (x h : ℕ) → waited f x h 5 ≡ h
+pub waited-head : (f : Part) (x h : ℕ) → waited f x h waitsAt ≡ h
 unfolding waited
 waited-head f x h = refl

@@ -3,12 +3,13 @@
 use mathlib.Core.Path.{_≡_}
 use mathlib.Core.Logic.{_≢_}
 use mathlib.Core.List.{List}
-use Prim.Native.Nat.{ℕ, _+_, _-_}
+use Prim.Native.Nat.{ℕ, zero, suc, _+_, _-_, _≤_}
 use lib.Dec.{ltb, eqb}
 use Rattle.method.specs.If.{if_then_else_}
 use Rattle.method.specs.Message.{finite}
 use Rattle.network.specs.Layout.{lenAt}
-use Rattle.cells.specs.Part.{Part, phaseAt, sentCount, entryCount, lpAt, lastAt, waitsAt, sumsAt, marksAt, targetsAt, distancesAt, hopsAt, messagesAt, sumOf}
+use Rattle.cells.specs.Part.{Part, phaseAt, sentCount, entryCount, lpAt, lastAt, waitsAt, sumsAt, marksAt, targetsAt, distancesAt}
+use Rattle.cells.specs.Part.{hopsAt, messagesAt, tableSize, labelMost, riseMost, noSum, sumOf}
 
 -- a number stored in a part
 abbrev pub upd : Part → ℕ → ℕ → Part
@@ -27,10 +28,16 @@ counted f o = upd f o (f o + 1)
 unfoldable pub pushed : Part → ℕ → Part
 pushed f w = upd (upd f (messagesAt + f sentCount) w) sentCount (f sentCount + 1)
 
+-- x can be sent as a length: it is as far above the last as a code can say
+pub record Rises (f : Part) (x : ℕ) : Type 0 where
+  pub least : f lastAt ≤ x
+  pub most : x ≤ f lastAt + riseMost
+  pub short : x ≤ noSum
+
 -- "A length equal to the last length sent by that node is not sent."
 unfoldable pub lengthSent : Part → ℕ → Part
 unfolding pushed
-lengthSent f x = if eqb (f lastAt) x then f else upd (pushed f (17 + x)) lastAt x
+lengthSent f x = if eqb (f lastAt) x then f else upd (pushed f (labelMost + (x - f lastAt))) lastAt x
 
 -- "send length x and wait for that arc": the one to h
 unfoldable pub waited : Part → ℕ → ℕ → Part
@@ -65,6 +72,7 @@ zeroed f k q = if ltb q k then 0 else f q
 abbrev pub laidOut : List ℕ → ℕ → Part → ℕ → Part
 laidOut g i f k q = if ltb q sumsAt then f q else if ltb q (sumsAt + k) then sumOf (lenAt g i (q - sumsAt)) (finite 0) else f q
 
--- the parts of the nodes below k as they are before the first step
+-- the parts of the nodes 1 to k as they are before the first step
 abbrev pub cleared : List ℕ → (ℕ → Part) → ℕ → ℕ → Part
-cleared g m k j = if ltb j k then laidOut g j (zeroed (m j) targetsAt) 17 else m j
+cleared g m k zero = m zero
+cleared g m k (suc j) = if ltb j k then laidOut g (suc j) (zeroed (m (suc j)) targetsAt) tableSize else m (suc j)

@@ -1,42 +1,56 @@
-// A run's state as one lent array of numbers, a part for each node: loads, and the stores that the rules ask for.
+// A run's state as one lent array of bytes, a part for each node: loads, and the stores that the rules ask for.
 ghost use mathlib.Core.Path.{_≡_};
 ghost use Prim.Native.Nat.{_+_, _≤_, _<_};
 ghost use lib.ListN.{length};
-ghost use Rattle.method.specs.Message.{finite};
 ghost use Rattle.network.specs.Layout.{lenAt};
-ghost use Rattle.cells.specs.Part.{partSize, stateSize, sentCount, entryCount, targetsAt, cells, sumOf};
-ghost use Rattle.cells.specs.Stores.{upd, Stored, counted, pushed, lengthSent, waited, noted, filled, stopped, begun, zeroed, laidOut, cleared};
+ghost use Rattle.cells.specs.Part.{sentMost, partSize, stateSize, sentCount, entryCount, targetsAt, cells};
+ghost use Rattle.cells.specs.Stores.{upd, Rises, Stored, counted, pushed, lengthSent, waited, noted, filled, stopped, begun, zeroed};
+ghost use Rattle.cells.specs.Stores.{laidOut, cleared};
 
-pub const PART: usize = 379;
+// 01's sizes: nodes, and LMAX.
+pub const NODES_MOST: usize = 16;
+
+pub const LMAX_MOST: usize = 15;
+
+// Places of a table by head or target, 0 to 16; entries; messages sent at most (law l).
+pub const TABLE: usize = NODES_MOST + 1;
+
+pub const FILLED: usize = NODES_MOST;
+
+pub const SENT_MOST: usize = (NODES_MOST - 1) * LMAX_MOST + NODES_MOST + 2;
 
 // The places in a part.
 pub const PHASE: usize = 0;
 
-pub const SENT: usize = 1;
+pub const SENT: usize = PHASE + 1;
 
-pub const ENTRIES: usize = 2;
+pub const ENTRIES: usize = SENT + 1;
 
-pub const LP: usize = 3;
+pub const LP: usize = ENTRIES + 1;
 
-pub const LAST: usize = 4;
+pub const LAST: usize = LP + 1;
 
-pub const WAITS: usize = 5;
+pub const WAITS: usize = LAST + 1;
 
-pub const DELIVERED: usize = 6;
+pub const DELIVERED: usize = WAITS + 1;
 
-pub const TAKEN: usize = 23;
+pub const TAKEN: usize = DELIVERED + TABLE;
 
-pub const SUMS: usize = 40;
+pub const SUMS: usize = TAKEN + TABLE;
 
-pub const MARKS: usize = 57;
+pub const MARKS: usize = SUMS + TABLE;
 
-pub const TARGETS: usize = 74;
+pub const TARGETS: usize = MARKS + TABLE;
 
-pub const DISTANCES: usize = 90;
+pub const DISTANCES: usize = TARGETS + FILLED;
 
-pub const HOPS: usize = 106;
+pub const HOPS: usize = DISTANCES + FILLED;
 
-pub const MESSAGES: usize = 122;
+pub const MESSAGES: usize = HOPS + FILLED;
+
+pub const PART: usize = MESSAGES + SENT_MOST;
+
+pub const STATE: usize = NODES_MOST * PART;
 
 // The places in an accepted network.
 pub const NODES: usize = 0;
@@ -51,28 +65,31 @@ pub const TAILS: usize = 292;
 
 pub const HEADS: usize = 532;
 
-// More than any sum.
-pub const NO_SUM: usize = 65535;
+// Codes of messages: 0 the end, up to this a label, above it a length by its rise.
+pub const LABELS: usize = NODES_MOST;
+
+// No sum, or one that no node goes on with.
+pub const NO_SUM: usize = 255;
 
 // A number of node i's part.
-pub fn get(s: &[u16], i: usize, o: usize) -> usize
-    requires { ⌜ (i < 17) × (o < partSize) × (length (now s) ≡ stateSize) ⌝ }
-    ensures { λ r. ⌜ (r ≡ cells (now (s .entry)) i o) × (r ≤ 65535) ⌝ }
+pub fn get(s: &[u8], i: usize, o: usize) -> usize
+    requires { ⌜ (1 ≤ i) × (i < 17) × (o < partSize) × (length (now s) ≡ stateSize) ⌝ }
+    ensures { λ r. ⌜ (r ≡ cells (now (s .entry)) i o) × (r ≤ 255) ⌝ }
 {
-    s[i * PART + o] as usize
+    s[(i - 1) * PART + o] as usize
 }
 
 // A number into node i's part; no other part changes.
-pub fn put(s: &mut [u16], i: usize, o: usize, v: usize)
-    requires { ⌜ (i < 17) × (o < partSize) × (v ≤ 65535) × (length (now s) ≡ stateSize) ⌝ }
+pub fn put(s: &mut [u8], i: usize, o: usize, v: usize)
+    requires { ⌜ (1 ≤ i) × (i < 17) × (o < partSize) × (v ≤ 255) × (length (now s) ≡ stateSize) ⌝ }
     ensures { λ _. ⌜ Stored (cells (now (s .entry))) i (upd (cells (now (s .entry)) i) o v) (cells (now (s .exit))) ⌝ }
 {
-    s[i * PART + o] = v as u16;
+    s[(i - 1) * PART + o] = v as u8;
 }
 
 // One more at a place.
-pub fn count(s: &mut [u16], i: usize, o: usize)
-    requires { ⌜ (i < 17) × (o < partSize) × (cells (now s) i o < 65535) × (length (now s) ≡ stateSize) ⌝ }
+pub fn count(s: &mut [u8], i: usize, o: usize)
+    requires { ⌜ (1 ≤ i) × (i < 17) × (o < partSize) × (cells (now s) i o < 255) × (length (now s) ≡ stateSize) ⌝ }
     ensures { λ _. ⌜ Stored (cells (now (s .entry))) i (counted (cells (now (s .entry)) i) o) (cells (now (s .exit))) ⌝ }
 {
     let k = get(&*s, i, o);
@@ -80,8 +97,8 @@ pub fn count(s: &mut [u16], i: usize, o: usize)
 }
 
 // Message w is sent.
-pub fn push(s: &mut [u16], i: usize, w: usize)
-    requires { ⌜ (i < 17) × (w ≤ 65535) × (cells (now s) i sentCount < 257) × (length (now s) ≡ stateSize) ⌝ }
+pub fn push(s: &mut [u8], i: usize, w: usize)
+    requires { ⌜ (1 ≤ i) × (i < 17) × (w ≤ 255) × (cells (now s) i sentCount < sentMost) × (length (now s) ≡ stateSize) ⌝ }
     ensures { λ _. ⌜ Stored (cells (now (s .entry))) i (pushed (cells (now (s .entry)) i) w) (cells (now (s .exit))) ⌝ }
 {
     let k = get(&*s, i, SENT);
@@ -89,20 +106,22 @@ pub fn push(s: &mut [u16], i: usize, w: usize)
     put(s, i, SENT, k + 1);
 }
 
-// Length x is sent, unless it was the last.
-pub fn send_length(s: &mut [u16], i: usize, x: usize)
-    requires { ⌜ (i < 17) × (x ≤ 255) × (cells (now s) i sentCount < 257) × (length (now s) ≡ stateSize) ⌝ }
+// Length x is sent as its rise over the last, unless it was the last.
+pub fn send_length(s: &mut [u8], i: usize, x: usize)
+    requires { ⌜ (1 ≤ i) × (i < 17) × Rises (cells (now s) i) x × (cells (now s) i sentCount < sentMost) × (length (now s) ≡ stateSize) ⌝ }
     ensures { λ _. ⌜ Stored (cells (now (s .entry))) i (lengthSent (cells (now (s .entry)) i) x) (cells (now (s .exit))) ⌝ }
 {
-    if get(&*s, i, LAST) != x {
-        push(s, i, 17 + x);
+    let last = get(&*s, i, LAST);
+    if last != x {
+        push(s, i, LABELS + (x - last));
         put(s, i, LAST, x);
     }
 }
 
 // Rule 3: length x is sent, and the node waits for its arc to h.
-pub fn wait(s: &mut [u16], i: usize, x: usize, h: usize)
-    requires { ⌜ (i < 17) × (x ≤ 255) × (h < 17) × (cells (now s) i sentCount < 257) × (length (now s) ≡ stateSize) ⌝ }
+pub fn wait(s: &mut [u8], i: usize, x: usize, h: usize)
+    requires { ⌜ (1 ≤ i) × (i < 17) × Rises (cells (now s) i) x × (h < 17) × (cells (now s) i sentCount < sentMost)
+        × (length (now s) ≡ stateSize) ⌝ }
     ensures { λ _. ⌜ Stored (cells (now (s .entry))) i (waited (cells (now (s .entry)) i) x h) (cells (now (s .exit))) ⌝ }
 {
     send_length(s, i, x);
@@ -110,8 +129,8 @@ pub fn wait(s: &mut [u16], i: usize, x: usize, h: usize)
 }
 
 // Entry y is filled with distance x and first hop h, and LP is x.
-pub fn note(s: &mut [u16], i: usize, y: usize, x: usize, h: usize)
-    requires { ⌜ (i < 17) × (y < 17) × (x ≤ 255) × (h < 17) × (cells (now s) i entryCount < 16) × (length (now s) ≡ stateSize) ⌝ }
+pub fn note(s: &mut [u8], i: usize, y: usize, x: usize, h: usize)
+    requires { ⌜ (1 ≤ i) × (i < 17) × (y < 17) × (x ≤ 255) × (h < 17) × (cells (now s) i entryCount < 16) × (length (now s) ≡ stateSize) ⌝ }
     ensures { λ _. ⌜ Stored (cells (now (s .entry))) i (noted (cells (now (s .entry)) i) y x h) (cells (now (s .exit))) ⌝ }
 {
     let k = get(&*s, i, ENTRIES);
@@ -124,8 +143,9 @@ pub fn note(s: &mut [u16], i: usize, y: usize, x: usize, h: usize)
 }
 
 // Rule 4, a label y with no entry yet.
-pub fn fill(s: &mut [u16], i: usize, h: usize, x: usize, y: usize)
-    requires { ⌜ (i < 17) × (h < 17) × (x ≤ 255) × (y < 17) × (cells (now s) i sentCount < 256) × (cells (now s) i entryCount < 16) × (length (now s) ≡ stateSize) ⌝ }
+pub fn fill(s: &mut [u8], i: usize, h: usize, x: usize, y: usize)
+    requires { ⌜ (1 ≤ i) × (i < 17) × (h < 17) × Rises (cells (now s) i) x × (y < 17) × (cells (now s) i sentCount + 1 < sentMost)
+        × (cells (now s) i entryCount < 16) × (length (now s) ≡ stateSize) ⌝ }
     ensures { λ _. ⌜ Stored (cells (now (s .entry))) i (filled (cells (now (s .entry)) i) h x y) (cells (now (s .exit))) ⌝ }
 {
     send_length(s, i, x);
@@ -134,8 +154,8 @@ pub fn fill(s: &mut [u16], i: usize, h: usize, x: usize, y: usize)
 }
 
 // Rule 2: the end is sent, and the node stops.
-pub fn stop(s: &mut [u16], i: usize)
-    requires { ⌜ (i < 17) × (cells (now s) i sentCount < 257) × (length (now s) ≡ stateSize) ⌝ }
+pub fn stop(s: &mut [u8], i: usize)
+    requires { ⌜ (1 ≤ i) × (i < 17) × (cells (now s) i sentCount < sentMost) × (length (now s) ≡ stateSize) ⌝ }
     ensures { λ _. ⌜ Stored (cells (now (s .entry))) i (stopped (cells (now (s .entry)) i)) (cells (now (s .exit))) ⌝ }
 {
     push(s, i, 0);
@@ -143,8 +163,9 @@ pub fn stop(s: &mut [u16], i: usize)
 }
 
 // Node i's start, but for its work.
-pub fn begin(s: &mut [u16], i: usize)
-    requires { ⌜ (i < 17) × (cells (now s) i sentCount < 257) × (cells (now s) i entryCount < 16) × (length (now s) ≡ stateSize) ⌝ }
+pub fn begin(s: &mut [u8], i: usize)
+    requires { ⌜ (1 ≤ i) × (i < 17) × (cells (now s) i sentCount < sentMost) × (cells (now s) i entryCount < 16)
+        × (length (now s) ≡ stateSize) ⌝ }
     ensures { λ _. ⌜ Stored (cells (now (s .entry))) i (begun (cells (now (s .entry)) i) i) (cells (now (s .exit))) ⌝ }
 {
     push(s, i, i);
@@ -152,29 +173,17 @@ pub fn begin(s: &mut [u16], i: usize)
     put(s, i, PHASE, 1);
 }
 
-// The arc's length, 255 where there is no arc.
+// The arc's length, which is its sum before anything is taken; 255 where there is no arc.
 pub fn length_of(net: &[u8], i: usize, h: usize) -> usize
-    requires { ⌜ (i < 17) × (h < 17) × (length (now net) ≡ 772) ⌝ }
+    requires { ⌜ (1 ≤ i) × (i < 17) × (h < 17) × (length (now net) ≡ 772) ⌝ }
     ensures { λ r. ⌜ (r ≡ lenAt (now (net .entry)) i h) × (r ≤ 255) ⌝ }
 {
     net[LENGTHS + (i * 17 + h)] as usize
 }
 
-// The arc's sum before anything is taken.
-pub fn first_sum(net: &[u8], i: usize, h: usize) -> usize
-    requires { ⌜ (i < 17) × (h < 17) × (length (now net) ≡ 772) ⌝ }
-    ensures { λ r. ⌜ (r ≡ sumOf (lenAt (now (net .entry)) i h) (finite 0)) × (r ≤ 65535) ⌝ }
-{
-    let l = length_of(net, i, h);
-    if l == 255 {
-        return NO_SUM;
-    }
-    l
-}
-
 // No phase, no messages, no entries, nothing delivered or taken.
-pub fn zero(s: &mut [u16], i: usize)
-    requires { ⌜ (i < 17) × (length (now s) ≡ stateSize) ⌝ }
+pub fn zero(s: &mut [u8], i: usize)
+    requires { ⌜ (1 ≤ i) × (i < 17) × (length (now s) ≡ stateSize) ⌝ }
     ensures { λ _. ⌜ Stored (cells (now (s .entry))) i (zeroed (cells (now (s .entry)) i) targetsAt) (cells (now (s .exit))) ⌝ }
 {
     let mut k: usize = 0;
@@ -185,27 +194,28 @@ pub fn zero(s: &mut [u16], i: usize)
 }
 
 // Each arc's sum as it is before any message: a node then chooses without looking at the network.
-pub fn lay_sums(net: &[u8], s: &mut [u16], i: usize)
-    requires { ⌜ (i < 17) × (length (now net) ≡ 772) × (length (now s) ≡ stateSize) ⌝ }
-    ensures { λ _. ⌜ Stored (cells (now (s .entry))) i (laidOut (now (net .entry)) i (cells (now (s .entry)) i) 17) (cells (now (s .exit))) ⌝ }
+pub fn lay_sums(net: &[u8], s: &mut [u8], i: usize)
+    requires { ⌜ (1 ≤ i) × (i < 17) × (length (now net) ≡ 772) × (length (now s) ≡ stateSize) ⌝ }
+    ensures { λ _. ⌜ Stored (cells (now (s .entry))) i (laidOut (now (net .entry)) i (cells (now (s .entry)) i) 17)
+        (cells (now (s .exit))) ⌝ }
 {
     let mut h: usize = 0;
-    while h < 17 {
-        let x = first_sum(net, i, h);
+    while h < TABLE {
+        let x = length_of(net, i, h);
         put(s, i, SUMS + h, x);
         h += 1;
     }
 }
 
 // All parts as they are before the first step.
-pub fn clear(net: &[u8], s: &mut [u16])
+pub fn clear(net: &[u8], s: &mut [u8])
     requires { ⌜ (length (now net) ≡ 772) × (length (now s) ≡ stateSize) ⌝ }
-    ensures { λ _. ⌜ cells (now (s .exit)) ≡ cleared (now (net .entry)) (cells (now (s .entry))) 17 ⌝ }
+    ensures { λ _. ⌜ cells (now (s .exit)) ≡ cleared (now (net .entry)) (cells (now (s .entry))) 16 ⌝ }
 {
     let mut i: usize = 0;
-    while i < 17 {
+    while i < 16 {
+        i += 1;
         zero(s, i);
         lay_sums(net, s, i);
-        i += 1;
     }
 }

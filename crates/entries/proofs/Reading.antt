@@ -17,7 +17,7 @@ use Rattle.method.specs.Steps.{State, steps, Counts}
 use Rattle.method.specs.Entries.{known, find, said, hasStopped, others, entry, records}
 use Rattle.method.proofs.Bounded.{never-a-mark}
 use Rattle.network.specs.Layout.{netOf}
-use Rattle.cells.specs.Part.{Part, entryAt, phaseOf, nodeOf, siteOf, stateOf, marked}
+use Rattle.cells.specs.Part.{Part, tableSize, marksAt, distancesAt, hopsAt, entryAt, phaseOf, nodeOf, siteOf, stateOf, marked}
 use Rattle.cells.specs.Caches.{Marks}
 use Rattle.run.specs.Ran.{Ran}
 use Rattle.entries.specs.Read.{isStopped, stoppedTo, entryOf}
@@ -35,10 +35,12 @@ stopped-is p = go (eqb p 0) refl (eqb p 1) refl
         lt-ltb 1 p (omega arith)
 
 -- one node more
-pub stopped-next : (st : State) (k c r : ℕ) (b : Bool) → b ≡ isStopped (st (k + 1)) → c ≡ stoppedTo st k → r ≡ cond b 1 0 + c → r ≡ stoppedTo st (k + 1)
+pub stopped-next : (st : State) (k c r : ℕ) (b : Bool) → b ≡ isStopped (st (k + 1)) → c ≡ stoppedTo st k → r ≡ cond b 1 0 + c
+    → r ≡ stoppedTo st (k + 1)
 stopped-next st k c r b eb ec er =
     subst (λ (n : ℕ). r ≡ stoppedTo st n) (sym (add-one k))
-    (er ∙ ap (λ (t : Bool). cond t 1 0 + c) (eb ∙ ap (λ (n : ℕ). isStopped (st n)) (add-one k)) ∙ ap (λ (x : ℕ). cond (isStopped (st (suc k))) 1 0 + x) ec)
+    (er ∙ ap (λ (t : Bool). cond t 1 0 + c) (eb ∙ ap (λ (n : ℕ). isStopped (st n)) (add-one k))
+    ∙ ap (λ (x : ℕ). cond (isStopped (st (suc k))) 1 0 + x) ec)
 
 pub stopped-le : (st : State) (k : ℕ) → stoppedTo st k ≤ k
 stopped-le st zero = omega arith
@@ -49,7 +51,7 @@ stopped-le st (suc k) = go (isStopped (st (suc k))) (stopped-le st k)
     go false ih = omega arith
 
 -- an entry by its mark
-module _ (f : Part) (y : ℕ) (lt : y < 17) (marks : Marks f) (k : ℕ) (is : k ≡ f (57 + y)) where
+module _ (f : Part) (y : ℕ) (lt : y < tableSize) (marks : Marks f) (k : ℕ) (is : k ≡ f (marksAt + y)) where
   found : find y (nodeOf f .table) ≡ marked f k
   found = marks y lt .1 ∙ ap (marked f) (sym is)
 
@@ -60,10 +62,10 @@ module _ (f : Part) (y : ℕ) (lt : y < 17) (marks : Marks f) (k : ℕ) (is : k 
       go zero n = absurd (n refl)
       go (suc k) n = let e : suc k - 1 ≡ k = omega arith in rw e
 
-  pub filled-distance : k ≢ 0 → (d : ℕ) → d ≡ f (90 + (k - 1)) → d ≡ distanceOf (entryOf (siteOf f) y)
+  pub filled-distance : k ≢ 0 → (d : ℕ) → d ≡ f (distancesAt + (k - 1)) → d ≡ distanceOf (entryOf (siteOf f) y)
   filled-distance ne d e = e ∙ sym (ap (λ (o : Option Filled). distanceOf (said (nodeOf f .phase) o)) (known-at ne))
 
-  pub filled-hop : k ≢ 0 → (h : ℕ) → h ≡ f (106 + (k - 1)) → h ≡ hopOf (entryOf (siteOf f) y)
+  pub filled-hop : k ≢ 0 → (h : ℕ) → h ≡ f (hopsAt + (k - 1)) → h ≡ hopOf (entryOf (siteOf f) y)
   filled-hop ne h e = e ∙ sym (ap (λ (o : Option Filled). hopOf (said (nodeOf f .phase) o)) (known-at ne))
 
   module _ (z : k ≡ 0) where

@@ -7,10 +7,10 @@ use Prim.Native.Nat.{ℕ, zero, suc, _+_, _-_, _*_, _≤_, _<_, min}
 use native.Mathlib.Omega.{arith}
 use lib.ListN.{length, getD, take, drop, length-drop}
 use lib.Seq.{getD-take, getD-drop, length-take-le}
-use borrow.Author.Tests.{lt-ltb}
 use Rattle.method.specs.Rules.{Filled}
 use Rattle.network.specs.Layout.{netOf}
-use Rattle.cells.specs.Part.{cells, stateSize, entryCount, entryAt, siteOf}
+use Rattle.cells.specs.Part.{tableSize, entryCount, targetsAt, distancesAt, hopsAt, partSize, stateSize, cells, entryAt, siteOf}
+use Rattle.cells.proofs.Stored.{cell-is}
 use Rattle.entries.specs.Read.{isStopped}
 use Rattle.table.specs.File.{one, fileOf, headerFor}
 use Rattle.table.specs.Calls.{outcome, roomAfter}
@@ -20,44 +20,49 @@ use Rattle.file.specs.Filing.{behindFirst, heldFile}
 
 -- the 15 numbers behind the first of those from place o on, in part i
 abbrev pub part : List ℕ → ℕ → ℕ → List ℕ
-part s i o = take 15 (drop (i * 379 + 1 + o) s)
+part s i o = take 15 (drop ((i - 1) * partSize + 1 + o) s)
 
 pub fifteen : (a : ℕ) → a + 15 - a ≡ 15
 fifteen a = omega arith
 
-module _ (s : List ℕ) (i : ℕ) (lt : i < 17) (size : length s ≡ stateSize) where
-  part-at : (o k : ℕ) → k < 15 → o + 16 ≤ 379 → getD (part s i o) k 0 ≡ cells s i (o + suc k)
+module _ (s : List ℕ) (i : ℕ) (pos : 1 ≤ i) (lt : i < tableSize) (size : length s ≡ stateSize) where
+  part-at : (o k : ℕ) → k < 15 → o + 16 ≤ partSize → getD (part s i o) k 0 ≡ cells s i (o + suc k)
   part-at o k h g =
-      let e : i * 379 + 1 + o + k ≡ i * 379 + (o + suc k) = omega arith in
-      rw (lt-ltb (o + suc k) 379 (omega arith))
-      (getD-take 15 (drop (i * 379 + 1 + o) s) k 0 h ∙ getD-drop (i * 379 + 1 + o) s k 0 ∙ ap (λ (q : ℕ). getD s q 0) e)
+      let e : (i - 1) * partSize + 1 + o + k ≡ (i - 1) * partSize + (o + suc k) = omega arith in
+      getD-take 15 (drop ((i - 1) * partSize + 1 + o) s) k 0 h ∙ getD-drop ((i - 1) * partSize + 1 + o) s k 0 ∙ ap (λ (q : ℕ). getD s q 0) e
+      ∙ cell-is s i (o + suc k) pos (omega arith)
 
-  part-size : (o : ℕ) → o + 16 ≤ 379 → length (part s i o) ≡ 15
-  part-size o g = length-take-le 15 (drop (i * 379 + 1 + o) s) (rw (length-drop (i * 379 + 1 + o) s) (omega arith))
+  part-size : (o : ℕ) → o + 16 ≤ partSize → length (part s i o) ≡ 15
+  part-size o g = length-take-le 15 (drop ((i - 1) * partSize + 1 + o) s) (rw (length-drop ((i - 1) * partSize + 1 + o) s) (omega arith))
 
-  rows-behind : (k : ℕ) → k ≤ 15 → rows (part s i 74) (part s i 90) (part s i 106) k ≡ behindFirst (cells s i) k
+  rows-behind : (k : ℕ) → k ≤ 15 → rows (part s i targetsAt) (part s i distancesAt) (part s i hopsAt) k ≡ behindFirst (cells s i) k
   unfolding rows
   rows-behind zero h = refl
   rows-behind (suc k) h =
-      rw (part-at 74 k h (omega arith), part-at 90 k h (omega arith), part-at 106 k h (omega arith))
+      rw (part-at targetsAt k h (omega arith), part-at distancesAt k h (omega arith), part-at hopsAt k h (omega arith))
       (ap (λ (r : List Filled). entryAt (cells s i) (suc k) ∷ r) (rows-behind k (omega arith)))
 
-  given-behind : (k : ℕ) → k ≤ 15 → given (part s i 74) (part s i 90) (part s i 106) k ≡ behindFirst (cells s i) k
+  given-behind : (k : ℕ) → k ≤ 15 → given (part s i targetsAt) (part s i distancesAt) (part s i hopsAt) k ≡ behindFirst (cells s i) k
   given-behind k h =
-      let a = part-size 74 (omega arith) in
-      let b = part-size 90 (omega arith) in
-      let d = part-size 106 (omega arith) in
-      let e : min (min k (length (part s i 74))) (min (length (part s i 90)) (length (part s i 106))) ≡ k = omega arith in
+      let a = part-size targetsAt (omega arith) in
+      let b = part-size distancesAt (omega arith) in
+      let d = part-size hopsAt (omega arith) in
+      let e : min (min k (length (part s i targetsAt))) (min (length (part s i distancesAt)) (length (part s i hopsAt))) ≡ k =
+      omega arith in
       rw e (rows-behind k h)
 
   -- so the file of these lists is the one that the part holds
-  pub lent-file : (g : List ℕ) (a b d : ℕ) → a ≡ 15 → b ≡ 15 → d ≡ 15 → (r : ℕ) → r ≡ cells s i entryCount → r ≤ 16 → (mark : Bool) → mark ≡ isStopped (siteOf (cells s i))
-      → lentFile (headerFor (netOf g) i) (take a (drop (i * 379 + 1 + 74) s)) (take b (drop (i * 379 + 1 + 90) s)) (take d (drop (i * 379 + 1 + 106) s)) (r - 1) mark
+  pub lent-file : (g : List ℕ) (a b d : ℕ) → a ≡ 15 → b ≡ 15 → d ≡ 15 → (r : ℕ) → r ≡ cells s i entryCount → r ≤ 16 → (mark : Bool)
+      → mark ≡ isStopped (siteOf (cells s i))
+      → lentFile (headerFor (netOf g) i) (take a (drop ((i - 1) * partSize + 1 + targetsAt) s))
+      (take b (drop ((i - 1) * partSize + 1 + distancesAt) s)) (take d (drop ((i - 1) * partSize + 1 + hopsAt) s)) (r - 1) mark
       ≡ heldFile g i (cells s i)
   lent-file g a b d ea eb ed r er h mark em =
-      rw (ea, eb, ed) (ap₂ (fileOf one (headerFor (netOf g) i)) (given-behind (r - 1) (omega arith) ∙ ap (λ (k : ℕ). behindFirst (cells s i) (k - 1)) er) em)
+      rw (ea, eb, ed) (ap₂ (fileOf one (headerFor (netOf g) i))
+      (given-behind (r - 1) (omega arith) ∙ ap (λ (k : ℕ). behindFirst (cells s i) (k - 1)) er) em)
 
 -- what was written of a file was written of its equal
-pub same-written : (what file room : List ℕ) (o : Outcome) (after : List ℕ) → what ≡ file → (o ≡ outcome what room) × (after ≡ roomAfter what room)
+pub same-written : (what file room : List ℕ) (o : Outcome) (after : List ℕ) → what ≡ file
+    → (o ≡ outcome what room) × (after ≡ roomAfter what room)
     → (o ≡ outcome file room) × (after ≡ roomAfter file room)
 same-written what file room o after e = subst (λ (w : List ℕ). (o ≡ outcome w room) × (after ≡ roomAfter w room)) e

@@ -12,13 +12,14 @@ use Rattle.method.specs.Network.{Net, Valid, Positive}
 use Rattle.method.specs.Distance.{Distance}
 use Rattle.method.specs.Rules.{Filled, unstarted}
 use Rattle.method.specs.Steps.{State, Step, steps, Counts}
-use Rattle.method.specs.Entries.{phase, hasStopped, table, others, records}
+use Rattle.method.specs.Entries.{nodes, phase, hasStopped, table, others, records}
 use Rattle.method.proofs.Chains.{own-distance}
 use Rattle.method.proofs.Table.{In, Has, Once, Paced}
-use Rattle.method.proofs.Said.{ok-of, once, filled-known}
+use Rattle.method.proofs.Always.{run-lawful}
+use Rattle.method.proofs.Said.{once, filled-known}
 use Rattle.method.proofs.Hops.{onto}
 use Rattle.network.specs.Layout.{netOf, Laid}
-use Rattle.cells.specs.Part.{Part, entryCount, entryAt, tableFrom, stateOf}
+use Rattle.cells.specs.Part.{Part, entryCount, targetsAt, entryAt, tableFrom, stateOf}
 use Rattle.run.specs.Ran.{Ran}
 use Rattle.entries.proofs.Reading.{ran-records}
 use Rattle.table.specs.File.{one, fileOf, headerFor, nodeFile}
@@ -33,17 +34,19 @@ record OwnFirst (lmax i : ℕ) (es : List Filled) : Type 0 where
   more : (e : Filled) → In e es → e .target ≢ i → 1 ≤ e .distance
 
 -- of every started node
-started-own-first : (net : Net) → Valid net → Positive net → (bs : List Step) (i : ℕ) → phase net bs i ≢ unstarted → OwnFirst (net .lmax) i (table net bs i)
+started-own-first : (net : Net) → Valid net → Positive net → (bs : List Step) (i : ℕ) → phase net bs i ≢ unstarted
+    → OwnFirst (net .lmax) i (table net bs i)
 started-own-first net va positive bs i ne =
-    let ok = ok-of net va bs i in
+    let ok = run-lawful net va bs .ok i in
     record {
       there = ok .own ne;
-      once = once net va bs i;
+      once = once net va (nodes net bs) (run-lawful net va bs) i;
       pace = ok .pace;
-      zero = λ e m q. own-distance (net .arcs) i (e .distance) (subst (λ (k : ℕ). Distance (net .arcs) i k (e .distance)) q (ok .right e m .distance));
+      zero = λ e m q. own-distance (net .arcs) i (e .distance)
+          (subst (λ (k : ℕ). Distance (net .arcs) i k (e .distance)) q (ok .right e m .distance));
       more =
           λ e m q.
-          let o = onto net va bs (e .target) i (e .distance) (e .hop) (filled-known net va bs i e m) q in
+          let o = onto net va bs (e .target) i (e .distance) (e .hop) (filled-known net va (nodes net bs) (run-lawful net va bs) i e m) q in
           omega (arith, o .nearer, positive i (e .hop) (o .len) (o .arc));
     }
 
@@ -55,9 +58,9 @@ behind : (f : Part) (lmax i k : ℕ) → OwnFirst lmax i (tableFrom f (suc k)) �
 behind f lmax i zero own = alone (own .there)
   where
     alone : Has i (tableFrom f 1) → others i (tableFrom f 1) ≡ behindFirst f 0
-    alone (inl q) = rw (eq-eqb (f 74) i (sym q))
+    alone (inl q) = rw (eq-eqb (f targetsAt) i (sym q))
     alone (inr h) = absurd h
-behind f lmax i (suc k) own = go (λ w. behind f lmax i k w) (eqb (f (74 + suc k)) i) refl (own .there)
+behind f lmax i (suc k) own = go (λ w. behind f lmax i k w) (eqb (f (targetsAt + suc k)) i) refl (own .there)
   where
     es : List Filled
     es = tableFrom f (suc k)
@@ -74,10 +77,17 @@ behind f lmax i (suc k) own = go (λ w. behind f lmax i k w) (eqb (f (74 + suc k
     go ih false q (inl h) = absurd (eqb-false (e .target) i q (sym h))
     go ih false q (inr h) =
         ap (λ (r : List Filled). e ∷ r)
-        (ih (record { there = h; once = own .once .1; pace = own .pace .2; zero = λ x m. own .zero x (inr m); more = λ x m. own .more x (inr m) }))
+        (ih (record {
+          there = h;
+          once = own .once .1;
+          pace = own .pace .2;
+          zero = λ x m. own .zero x (inr m);
+          more = λ x m. own .more x (inr m);
+        }))
 
 -- so after a run the array holds the file
-module _ (g bs : List ℕ) (m : ℕ → Part) (c : Counts) (laid : Laid g) (ran : Ran g bs m c) (i : ℕ) (ne : phase (netOf g) (steps bs) i ≢ unstarted) where
+module _ (g bs : List ℕ) (m : ℕ → Part) (c : Counts) (laid : Laid g) (ran : Ran g bs m c) (i : ℕ)
+    (ne : phase (netOf g) (steps bs) i ≢ unstarted) where
   own-first : OwnFirst (netOf g .lmax) i (tableFrom (m i) (m i entryCount))
   own-first =
       subst (OwnFirst (netOf g .lmax) i) (ap (λ (st : State). st i .node .table) (sym (ran .state)))
@@ -89,7 +99,8 @@ module _ (g bs : List ℕ) (m : ℕ → Part) (c : Counts) (laid : Laid g) (ran 
   behind-is : behindFirst (m i) (m i entryCount - 1) ≡ records (netOf g) (steps bs) i
   behind-is =
       let e : m i entryCount ≡ suc (m i entryCount - 1) = omega (arith, some-entry) in
-      sym (behind (m i) (netOf g .lmax) i (m i entryCount - 1) (subst (λ (k : ℕ). OwnFirst (netOf g .lmax) i (tableFrom (m i) k)) e own-first))
+      sym (behind (m i) (netOf g .lmax) i (m i entryCount - 1)
+      (subst (λ (k : ℕ). OwnFirst (netOf g .lmax) i (tableFrom (m i) k)) e own-first))
       ∙ ap (λ (k : ℕ). others i (tableFrom (m i) k)) (sym e) ∙ ran-records g bs m c ran i
 
   mark-is : hasStopped (stateOf m i .node .phase) ≡ hasStopped (phase (netOf g) (steps bs) i)

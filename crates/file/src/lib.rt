@@ -34,13 +34,15 @@ fn packed(o: Outcome) -> u32
 
 // Writes the file of node i, which has started. The first entry that it filled is its own; the others lie in the array as the writer
 // asks for them, so they are lent in place.
-fn put_file(net: &[u8], s: &[u16], i: usize, room: &mut [u8]) -> Outcome
-    requires { ⌜ Laid (now net) × IsNode (netOf (now net) .n) i × (1 ≤ cells (now s) i entryCount) × (cells (now s) i entryCount ≤ 16) × (length (now s) ≡ stateSize) ⌝ }
-    ensures { λ r. ⌜ (r ≡ outcome (heldFile (now (net .entry)) i (cells (now (s .entry)) i)) (now (room .entry))) × (now (room .exit) ≡ roomAfter (heldFile (now (net .entry)) i (cells (now (s .entry)) i)) (now (room .entry))) ⌝ }
+fn put_file(net: &[u8], s: &[u8], i: usize, room: &mut [u8]) -> Outcome
+    requires { ⌜ Laid (now net) × IsNode (netOf (now net) .n) i × (1 ≤ cells (now s) i entryCount) × (cells (now s) i entryCount ≤ 16)
+        × (length (now s) ≡ stateSize) ⌝ }
+    ensures { λ r. ⌜ (r ≡ outcome (heldFile (now (net .entry)) i (cells (now (s .entry)) i)) (now (room .entry)))
+        × (now (room .exit) ≡ roomAfter (heldFile (now (net .entry)) i (cells (now (s .entry)) i)) (now (room .entry))) ⌝ }
 {
     let records = get(s, i, ENTRIES) - 1;
     let stopped = entries::has_stopped(s, i);
-    let first = i * PART + 1;
+    let first = (i - 1) * PART + 1;
     let targets = &s[first + TARGETS..first + TARGETS + MOST];
     let distances = &s[first + DISTANCES..first + DISTANCES + MOST];
     let hops = &s[first + HOPS..first + HOPS + MOST];
@@ -60,9 +62,10 @@ fn put_file(net: &[u8], s: &[u16], i: usize, room: &mut [u8]) -> Outcome
 // Runs the steps over an accepted network and writes node i's file. Refusals 12 and 13.
 fn run_and_write(net: &[u8], bytes: &[u8], i: usize, room: &mut [u8]) -> u32
     requires { ⌜ Laid (now net) × IsNode (netOf (now net) .n) i ⌝ }
-    ensures { λ r. ⌜ (r ≡ lateAnswer (netOf (now (net .entry))) (steps (now (bytes .entry))) i (now (room .entry))) × (now (room .exit) ≡ lateRoom (netOf (now (net .entry))) (steps (now (bytes .entry))) i (now (room .entry))) ⌝ }
+    ensures { λ r. ⌜ (r ≡ lateAnswer (netOf (now (net .entry))) (steps (now (bytes .entry))) i (now (room .entry)))
+        × (now (room .exit) ≡ lateRoom (netOf (now (net .entry))) (steps (now (bytes .entry))) i (now (room .entry))) ⌝ }
 {
-    let mut s = [0u16; 6443];
+    let mut s = [0u8; STATE];
     run::run(net, &mut s, bytes);
     if get(&s, i, PHASE) == 0 {
         return 12;
@@ -121,7 +124,8 @@ pub fn read_entry(file: &[u8], target: u32) -> u32
 
 // All entries of a table file of n nodes, as 2 * n numbers from the room's start on. Refusals 14 to 18, then 13.
 pub fn read_table(file: &[u8], room: &mut [u16]) -> u32
-    ensures { λ r. ⌜ (r ≡ outcomeAnswer (entriesOutcome (reading one (now (file .entry))) (now (room .entry)))) × (now (room .exit) ≡ tableRoom (reading one (now (file .entry))) (now (room .entry))) ⌝ }
+    ensures { λ r. ⌜ (r ≡ outcomeAnswer (entriesOutcome (reading one (now (file .entry))) (now (room .entry))))
+        × (now (room .exit) ≡ tableRoom (reading one (now (file .entry))) (now (room .entry))) ⌝ }
 {
     packed(reader::read_entries(file, room))
 }

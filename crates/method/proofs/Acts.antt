@@ -16,7 +16,8 @@ use Rattle.method.specs.Distance.{Chain, here, via, Distance, Starts, Ri
 use Rattle.method.specs.Message.{Msg, label, len, end, Item, finite, infinite, lastLen, item, sendLen}
 use Rattle.method.specs.Rules.{Filled, started, stopped, Node, Choice, stop, wait, fill}
 use Rattle.method.specs.Distinct.{Among}
-use Rattle.method.proofs.Sent.{Labelled, Complete, Good, Under, complete, item-lastLen, sendLen-last, sendLen-labels, sendLen-ends, sendLen-good}
+use Rattle.method.proofs.Sent.{Labelled, Complete, Good, Under, complete, item-lastLen, sendLen-last, sendLen-labels, sendLen-ends}
+use Rattle.method.proofs.Sent.{sendLen-good}
 use Rattle.method.proofs.Choosing.{Before, before-more}
 use Rattle.method.proofs.Chains.{snoc}
 use Rattle.method.proofs.Table.{In, Has, has-entry, paced-top}
@@ -39,7 +40,8 @@ labelled-now T h y = go (eqb h h) refl
     go true q = inl refl
     go false q = absurd (eqb-false h h q refl)
 
-module _ (net : Net) (i : ℕ) (T : ℕ → List Msg) (nd : Node) (ok : Ok net i T nd) (true-lists : (j : ℕ) → Good (net .arcs) j (T j)) (up : nd .phase ≡ started) where
+module _ (net : Net) (i : ℕ) (T : ℕ → List Msg) (nd : Node) (ok : Ok net i T nd) (true-lists : (j : ℕ) → Good (net .arcs) j (T j))
+    (up : nd .phase ≡ started) where
   own-entry : Has i (nd .table)
   own-entry = ok .own (λ e. started-unstarted (nd .phase) up e)
 
@@ -61,7 +63,8 @@ module _ (net : Net) (i : ℕ) (T : ℕ → List Msg) (nd : Node) (ok : Ok net i
   under j y t c u = ok .heard j y (complete (net .arcs) j (T j) (true-lists j) y t c u)
 
   -- where every arc from i gives more than d, what is d away or nearer has an entry
-  behind : (y d : ℕ) → Chain (net .arcs) i y d → ((j l t : ℕ) → IsArc (net .arcs) i j l → d ≡ l + t → Under t (item (T j))) → Has y (nd .table)
+  behind : (y d : ℕ) → Chain (net .arcs) i y d → ((j l t : ℕ) → IsArc (net .arcs) i j l → d ≡ l + t → Under t (item (T j)))
+      → Has y (nd .table)
   behind y d (here e q) far = subst (λ (k : ℕ). Has k (nd .table)) e own-entry
   behind y d (via j l t a c q) far = under j y t c (far j l t a q)
 
@@ -99,12 +102,23 @@ module _ (net : Net) (i : ℕ) (T : ℕ → List Msg) (nd : Node) (ok : Ok net i
         go (inr eq) = omega arith
 
     -- what is nearer than the least sum has an entry
-    near : (y d : ℕ) → Chain (net .arcs) i y d → d < p .sum → Has y (nd .table)
+    pub near : (y d : ℕ) → Chain (net .arcs) i y d → d < p .sum → Has y (nd .table)
     near y d c lt = behind y d c (λ j l t a q. below j l t a q (item (T j)) refl)
       where
         below : (j l t : ℕ) → IsArc (net .arcs) i j l → d ≡ l + t → (w : Item) → item (T j) ≡ w → Under t w
         below j l t a q (finite v) e = let h = sum-le j l v a e in omega arith
         below j l t a q infinite e = tt
+
+    -- of all ways to a node without entry none goes before the chosen arc's sum and head
+    pub first : (y : ℕ) → (Has y (nd .table) → ⊥) → (h l s : ℕ) → IsArc (net .arcs) i h l → Chain (net .arcs) h y s
+        → Before (net .rank) (p .sum) (p .head) (l + s) h
+    first y new h l s a c = at (item (T h)) refl
+      where
+        at : (w : Item) → item (T h) ≡ w → Before (net .rank) (p .sum) (p .head) (l + s) h
+        at (finite v) e =
+            let q : ¬ (s < v) = λ lt. new (under h y s c (subst (λ (w : Item). Under s w) (sym e) lt)) in
+            before-more (net .rank) (p .sum) (p .head) (l + v) (l + s) h (ch .1 h l v a e) (omega arith)
+        at infinite e = absurd (new (under h y s c (subst (λ (w : Item). Under s w) (sym e) tt)))
 
     -- the last length sent is not above the least sum
     pub floor : lastLen (nd .sent) ≤ p .sum
@@ -114,14 +128,16 @@ module _ (net : Net) (i : ℕ) (T : ℕ → List Msg) (nd : Node) (ok : Ok net i
     sum-complete y d c lt = sent-label y (near y d c lt)
 
     -- past LP + LMAX nothing is left: walk the chain
-    pub past : Valid net → nd .lp + net .lmax < p .sum → (z : ℕ) → Has z (nd .table) → (y s : ℕ) → Chain (net .arcs) z y s → Has y (nd .table)
+    pub past : Valid net → nd .lp + net .lmax < p .sum → (z : ℕ) → Has z (nd .table) → (y s : ℕ) → Chain (net .arcs) z y s
+        → Has y (nd .table)
     past va gap z hz y s (here e q) = subst (λ (k : ℕ). Has k (nd .table)) e hz
     past va gap z hz y s (via j l t a c q) = past va gap j hj y t c
       where
         hj : Has j (nd .table)
         hj =
             let r = has-entry z (nd .table) hz in
-            let c₁ : Chain (net .arcs) i z (r .0 .distance) = subst (λ (k : ℕ). Chain (net .arcs) i k (r .0 .distance)) (sym (r .2)) (ok .right (r .0) (r .1) .distance .chain) in
+            let c₁ : Chain (net .arcs) i z (r .0 .distance) = subst (λ (k : ℕ). Chain (net .arcs) i k (r .0 .distance)) (sym (r .2))
+            (ok .right (r .0) (r .1) .distance .chain) in
             near j (r .0 .distance + l) (snoc (net .arcs) i z j (r .0 .distance) l c₁ a)
             (omega (arith, paced-top (net .lmax) (nd .table) (ok .pace) (r .0) (r .1), ok .last, va .short z j l a))
 
@@ -156,7 +172,8 @@ module _ (net : Net) (i : ℕ) (T : ℕ → List Msg) (nd : Node) (ok : Ok net i
         heard j y end pm true w = ok .heard j y w
         heard j y m pm false w = ok .heard j y w
 
-        front : (j l v : ℕ) → IsArc (net .arcs) i j l → (m : Msg) → Good (net .arcs) (p .head) (m ∷ T (p .head)) → (b : Bool) → eqb j (p .head) ≡ b
+        front : (j l v : ℕ) → IsArc (net .arcs) i j l → (m : Msg) → Good (net .arcs) (p .head) (m ∷ T (p .head)) → (b : Bool)
+            → eqb j (p .head) ≡ b
             → item (cond b (m ∷ T j) (T j)) ≡ finite v → lastLen (nd .sent) ≤ l + v
         front j l v a (label z) gm true eb e = ok .front j l v a e
         front j l v a (len x) gm true eb e =
@@ -192,23 +209,14 @@ module _ (net : Net) (i : ℕ) (T : ℕ → List Msg) (nd : Node) (ok : Ok net i
 
       -- a label of a node without entry: nothing is nearer, no hop lower
       module _ (y : ℕ) (new : Has y (nd .table) → ⊥) (gm : Good (net .arcs) (p .head) (label y ∷ T (p .head))) where
-        -- of all ways to y none goes before the chosen arc's sum and head
-        first : (h l s : ℕ) → IsArc (net .arcs) i h l → Chain (net .arcs) h y s → Before (net .rank) (p .sum) (p .head) (l + s) h
-        first h l s a c = at (item (T h)) refl
-          where
-            at : (w : Item) → item (T h) ≡ w → Before (net .rank) (p .sum) (p .head) (l + s) h
-            at (finite v) e =
-                let q : ¬ (s < v) = λ lt. new (under h y s c (subst (λ (w : Item). Under s w) (sym e) lt)) in
-                before-more (net .rank) (p .sum) (p .head) (l + v) (l + s) h (ch .1 h l v a e) (omega arith)
-            at infinite e = absurd (new (under h y s c (subst (λ (w : Item). Under s w) (sym e) tt)))
-
-        starts : Starts (net .arcs) i y (p .sum) (p .head)
+        pub starts : Starts (net .arcs) i y (p .sum) (p .head)
         starts =
             record {
               len = ch .0 .len;
               rest = ch .0 .now;
               arc = ch .0 .arc;
-              chain = subst (λ (d : ℕ). Chain (net .arcs) (p .head) y d) (item-lastLen (T (p .head)) (ch .0 .now) (ch .0 .itemIs)) (gm .1 .chain);
+              chain = subst (λ (d : ℕ). Chain (net .arcs) (p .head) y d) (item-lastLen (T (p .head)) (ch .0 .now) (ch .0 .itemIs))
+                  (gm .1 .chain);
               sum = ch .0 .sumIs;
             }
 
@@ -225,7 +233,7 @@ module _ (net : Net) (i : ℕ) (T : ℕ → List Msg) (nd : Node) (ok : Ok net i
             not-own e = new (subst (λ (k : ℕ). Has k (nd .table)) (sym e) own-entry)
 
             lowest : (h : ℕ) → Starts (net .arcs) i y (p .sum) h → net .rank (p .head) ≤ net .rank h
-            lowest h s = go (first h (s .len) (s .rest) (s .arc) (s .chain))
+            lowest h s = go (first y new h (s .len) (s .rest) (s .arc) (s .chain))
               where
                 go : Before (net .rank) (p .sum) (p .head) (s .len + s .rest) h → net .rank (p .head) ≤ net .rank h
                 go (inl lt) = absurd (omega (arith, s .sum))
@@ -267,10 +275,12 @@ module _ (net : Net) (i : ℕ) (T : ℕ → List Msg) (nd : Node) (ok : Ok net i
             heard j z false w = inr (ok .heard j z w)
 
             traced : (e : Filled) → In e (fill nd p y .table) → (e .target ≡ i) ⊎ Labelled (e .target) (with T (p .head) (label y) (e .hop))
-            traced e (inl q) = inr (subst (λ (f : Filled). Labelled (f .target) (with T (p .head) (label y) (f .hop))) (sym q) (labelled-now T (p .head) y))
+            traced e (inl q) = inr (subst (λ (f : Filled). Labelled (f .target) (with T (p .head) (label y) (f .hop))) (sym q)
+                (labelled-now T (p .head) y))
             traced e (inr m) = kept-traced (p .head) (label y) e m
 
-            front : (j l v : ℕ) → IsArc (net .arcs) i j l → item (with T (p .head) (label y) j) ≡ finite v → lastLen (fill nd p y .sent) ≤ l + v
+            front : (j l v : ℕ) → IsArc (net .arcs) i j l → item (with T (p .head) (label y) j) ≡ finite v
+                → lastLen (fill nd p y .sent) ≤ l + v
             front j l v a e = omega (arith, sendLen-last (nd .sent) (p .sum), sum-le j l v a (go (eqb j (p .head)) e))
               where
                 go : (b : Bool) → item (cond b (label y ∷ T j) (T j)) ≡ finite v → item (T j) ≡ finite v

@@ -1,4 +1,4 @@
--- What an entry says: laws a, b, c, d and h.
+-- What an entry says, however messages travel: laws a, b, c, d and h.
 -- Assumes nothing.
 use mathlib.Core.Path.{_≡_, refl, sym, ap, ap₂, subst, _∙_}
 use mathlib.Core.Logic.{_⊎_, inl, inr, _≢_, _↔_}
@@ -9,17 +9,14 @@ use native.Mathlib.Omega.{arith}
 use Rattle.method.specs.Network.{Net, IsNode, Valid, Ranked}
 use Rattle.method.specs.Distance.{Chain, NoChain, FirstHop, Right}
 use Rattle.method.specs.Message.{Msg, end}
-use Rattle.method.specs.Rules.{Filled, Phase, unstarted, started, stopped}
-use Rattle.method.specs.Work.{heard}
-use Rattle.method.specs.Steps.{sents, Step, run}
-use Rattle.method.specs.Entries.{Entry, unknown, unreachable, known, find, said, phase, table, entry, Stopped}
+use Rattle.method.specs.Rules.{Filled, Phase, unstarted, started, stopped, Node}
+use Rattle.method.specs.Entries.{Entry, unknown, unreachable, known, find, said, entryOf}
 use Rattle.method.specs.Distinct.{Among, Distinct}
 use Rattle.method.proofs.Sent.{Labelled, Good, labels-distinct}
 use Rattle.method.proofs.Chains.{own-distance, same-distance, same-hop}
 use Rattle.method.proofs.Table.{In, Has, Once, has-entry, in-has, in-more, Found, find-ok, find-in}
-use Rattle.method.proofs.View.{Ok}
-use Rattle.method.proofs.Turns.{stage}
-use Rattle.method.proofs.Runs.{run-ok, run-onward}
+use Rattle.method.proofs.Turns.{stage, Later}
+use Rattle.method.proofs.Lawful.{Lawful}
 
 abbrev filled : ℕ → ℕ → ℕ → Filled
 filled y d h = record { target = y; distance = d; hop = h }
@@ -52,113 +49,78 @@ still-stopped ph unstarted e le = let q : stage ph ≡ 2 = ap stage e in absurd 
 still-stopped ph started e le = let q : stage ph ≡ 2 = ap stage e in absurd (omega arith)
 still-stopped ph stopped e le = refl
 
-module _ (net : Net) (va : Valid net) where
-  pub ok-of : (bs : List Step) (i : ℕ) → Ok net i (heard (sents (run net bs)) (run net bs i)) (run net bs i .node)
-  ok-of bs i = run-ok net va bs i .site .ok
-
-  pub once : (bs : List Step) (i : ℕ) → Once (table net bs i)
-  once bs i = subst Distinct (ok-of bs i .each) (labels-distinct (net .arcs) i (run net bs i .node .sent) (ok-of bs i .good))
+module _ (net : Net) (va : Valid net) (nodes : ℕ → Node) (lawful : Lawful net nodes) where
+  pub once : (i : ℕ) → Once (nodes i .table)
+  once i = subst Distinct (lawful .ok i .each) (labels-distinct (net .arcs) i (nodes i .sent) (lawful .ok i .good))
 
   -- a known entry is a filled one, and back
-  pub known-filled : (bs : List Step) (i y d h : ℕ) → entry net bs i y ≡ known d h → In (filled y d h) (table net bs i)
-  known-filled bs i y d h e = subst (λ (x : Entry). Means (phase net bs i) (table net bs i) y x) e (means (phase net bs i) (table net bs i) y)
+  pub known-filled : (i y d h : ℕ) → entryOf (nodes i) y ≡ known d h → In (filled y d h) (nodes i .table)
+  known-filled i y d h e = subst (λ (x : Entry). Means (nodes i .phase) (nodes i .table) y x) e (means (nodes i .phase) (nodes i .table) y)
 
-  pub filled-known : (bs : List Step) (i : ℕ) (e : Filled) → In e (table net bs i) → entry net bs i (e .target) ≡ known (e .distance) (e .hop)
-  filled-known bs i e m = ap (said (phase net bs i)) (find-in e (table net bs i) (once bs i) m)
+  pub filled-known : (i : ℕ) (e : Filled) → In e (nodes i .table) → entryOf (nodes i) (e .target) ≡ known (e .distance) (e .hop)
+  filled-known i e m = ap (said (nodes i .phase)) (find-in e (nodes i .table) (once i) m)
 
   -- a
-  pub filled-is-right : (bs : List Step) (i y d h : ℕ) → entry net bs i y ≡ known d h → Right net i y d h
-  filled-is-right bs i y d h e = ok-of bs i .right (filled y d h) (known-filled bs i y d h e)
+  pub filled-is-right : (i y d h : ℕ) → entryOf (nodes i) y ≡ known d h → Right net i y d h
+  filled-is-right i y d h e = lawful .ok i .right (filled y d h) (known-filled i y d h e)
 
-  has-chain : (bs : List Step) (i y : ℕ) → Has y (table net bs i) → (d : ℕ) × Chain (net .arcs) i y d
-  has-chain bs i y h =
-      let r = has-entry y (table net bs i) h in
-      (r .0 .distance, subst (λ (k : ℕ). Chain (net .arcs) i k (r .0 .distance)) (sym (r .2)) (ok-of bs i .right (r .0) (r .1) .distance .chain))
+  has-chain : (i y : ℕ) → Has y (nodes i .table) → (d : ℕ) × Chain (net .arcs) i y d
+  has-chain i y h =
+      let r = has-entry y (nodes i .table) h in (
+        r .0 .distance,
+        subst (λ (k : ℕ). Chain (net .arcs) i k (r .0 .distance)) (sym (r .2))
+            (lawful .ok i .right (r .0) (r .1) .distance .chain),
+      )
 
   -- a stopped node has an entry for all that it can reach
-  stopped-has : (bs : List Step) (i : ℕ) → Stopped net bs i → (y s : ℕ) → Chain (net .arcs) i y s → Has y (table net bs i)
-  stopped-has bs i e y s c =
-      let sh = ok-of bs i .shut e in
-      let g : Good (net .arcs) i (end ∷ sh .0) = subst (λ (r : List Msg). Good (net .arcs) i r) (sh .1) (ok-of bs i .good) in
-      subst (λ (xs : List ℕ). Among y xs) (ok-of bs i .each) (subst (λ (r : List Msg). Labelled y r) (sym (sh .1)) (g .1 y s c))
+  pub stopped-has : (i : ℕ) → nodes i .phase ≡ stopped → (y s : ℕ) → Chain (net .arcs) i y s → Has y (nodes i .table)
+  stopped-has i e y s c =
+      let sh = lawful .ok i .shut e in
+      let g : Good (net .arcs) i (end ∷ sh .0) = subst (λ (r : List Msg). Good (net .arcs) i r) (sh .1) (lawful .ok i .good) in
+      subst (λ (xs : List ℕ). Among y xs) (lawful .ok i .each) (subst (λ (r : List Msg). Labelled y r) (sym (sh .1)) (g .1 y s c))
 
   -- d
-  pub unreachable-no-chain : (bs : List Step) (i y : ℕ) → entry net bs i y ≡ unreachable → Stopped net bs i × NoChain (net .arcs) i y
-  unreachable-no-chain bs i y e =
-      let m : Means (phase net bs i) (table net bs i) y unreachable = subst (λ (x : Entry). Means (phase net bs i) (table net bs i) y x) e (means (phase net bs i) (table net bs i) y) in
-      (m .0, λ s c. m .1 (stopped-has bs i (m .0) y s c))
+  pub unreachable-no-chain : (i y : ℕ) → entryOf (nodes i) y ≡ unreachable → (nodes i .phase ≡ stopped) × NoChain (net .arcs) i y
+  unreachable-no-chain i y e =
+      let m : Means (nodes i .phase) (nodes i .table) y unreachable = subst (λ (x : Entry). Means (nodes i .phase) (nodes i .table) y x) e
+      (means (nodes i .phase) (nodes i .table) y) in
+      (m .0, λ s c. m .1 (stopped-has i (m .0) y s c))
 
-  pub no-chain-unreachable : (bs : List Step) (i y : ℕ) → Stopped net bs i → NoChain (net .arcs) i y → entry net bs i y ≡ unreachable
-  no-chain-unreachable bs i y e none-leads =
-      unsaid (phase net bs i) (table net bs i) y e (λ h. let c = has-chain bs i y h in none-leads (c .0) (c .1))
+  pub no-chain-unreachable : (i y : ℕ) → nodes i .phase ≡ stopped → NoChain (net .arcs) i y → entryOf (nodes i) y ≡ unreachable
+  no-chain-unreachable i y e none-leads =
+      unsaid (nodes i .phase) (nodes i .table) y e (λ h. let c = has-chain i y h in none-leads (c .0) (c .1))
 
-  pub stopped-unreachable : (bs : List Step) (i : ℕ) → Stopped net bs i → (y : ℕ) → (entry net bs i y ≡ unreachable) ↔ NoChain (net .arcs) i y
-  stopped-unreachable bs i e y = (λ q. unreachable-no-chain bs i y q .1, λ n. no-chain-unreachable bs i y e n)
+  pub stopped-unreachable : (i : ℕ) → nodes i .phase ≡ stopped → (y : ℕ) → (entryOf (nodes i) y ≡ unreachable) ↔ NoChain (net .arcs) i y
+  stopped-unreachable i e y = (λ q. unreachable-no-chain i y q .1, λ n. no-chain-unreachable i y e n)
 
-  pub all-stopped : (bs : List Step) → ((i : ℕ) → IsNode (net .n) i → Stopped net bs i)
-      → (i y : ℕ) → IsNode (net .n) i → ((d : ℕ) × (h : ℕ) × (entry net bs i y ≡ known d h)) ⊎ NoChain (net .arcs) i y
-  all-stopped bs all i y at = go (entry net bs i y) refl (means (phase net bs i) (table net bs i) y)
+  pub all-stopped : ((i : ℕ) → IsNode (net .n) i → nodes i .phase ≡ stopped)
+      → (i y : ℕ) → IsNode (net .n) i → ((d : ℕ) × (h : ℕ) × (entryOf (nodes i) y ≡ known d h)) ⊎ NoChain (net .arcs) i y
+  all-stopped all i y at = go (entryOf (nodes i) y) refl (means (nodes i .phase) (nodes i .table) y)
     where
-      go : (x : Entry) → entry net bs i y ≡ x → Means (phase net bs i) (table net bs i) y x
-          → ((d : ℕ) × (h : ℕ) × (entry net bs i y ≡ known d h)) ⊎ NoChain (net .arcs) i y
+      go : (x : Entry) → entryOf (nodes i) y ≡ x → Means (nodes i .phase) (nodes i .table) y x
+          → ((d : ℕ) × (h : ℕ) × (entryOf (nodes i) y ≡ known d h)) ⊎ NoChain (net .arcs) i y
       go unknown e m = absurd (m .0 (all i at))
-      go unreachable e m = inr (unreachable-no-chain bs i y e .1)
+      go unreachable e m = inr (unreachable-no-chain i y e .1)
       go (known d h) e m = inl (d, h, e)
 
-  -- b
-  pub only-adds : (bs cs : List Step) (i : ℕ) → (g : List Filled) × (table net (bs ++ cs) i ≡ g ++ table net bs i)
-  only-adds bs cs i = run-onward net va bs cs i .node .moreTable
-
-  pub final : (bs cs : List Step) (i y : ℕ) → entry net bs i y ≢ unknown → entry net (bs ++ cs) i y ≡ entry net bs i y
-  final bs cs i y ne = go (entry net bs i y) refl
-    where
-      go : (x : Entry) → entry net bs i y ≡ x → entry net (bs ++ cs) i y ≡ entry net bs i y
-      go unknown e = absurd (ne e)
-      go unreachable e =
-          let u = unreachable-no-chain bs i y e in
-          let on = run-onward net va bs cs i .node .stage-le in
-          no-chain-unreachable (bs ++ cs) i y (still-stopped (phase net bs i) (phase net (bs ++ cs) i) (u .0) on) (u .1) ∙ sym e
-      go (known d h) e =
-          let g = only-adds bs cs i in
-          let m : In (filled y d h) (g .0 ++ table net bs i) = in-more (filled y d h) (g .0) (table net bs i) (known-filled bs i y d h e) in
-          filled-known (bs ++ cs) i (filled y d h) (subst (λ (t : List Filled). In (filled y d h) t) (sym (g .1)) m) ∙ sym e
-
-  -- c
-  pub orders-agree : Ranked net → (bs cs : List Step) (i y : ℕ) → entry net bs i y ≢ unknown → entry net cs i y ≢ unknown → entry net bs i y ≡ entry net cs i y
-  orders-agree inj bs cs i y nb nc = go (entry net bs i y) refl (entry net cs i y) refl
-    where
-      apart : (us vs : List Step) (d h : ℕ) → entry net us i y ≡ unreachable → entry net vs i y ≡ known d h → ⊥
-      apart us vs d h e f = unreachable-no-chain us i y e .1 d (filled-is-right vs i y d h f .distance .chain)
-
-      go : (x : Entry) → entry net bs i y ≡ x → (w : Entry) → entry net cs i y ≡ w → entry net bs i y ≡ entry net cs i y
-      go unknown e w f = absurd (nb e)
-      go unreachable e unknown f = absurd (nc f)
-      go unreachable e unreachable f = e ∙ sym f
-      go unreachable e (known d h) f = absurd (apart bs cs d h e f)
-      go (known d h) e unknown f = absurd (nc f)
-      go (known d h) e unreachable f = absurd (apart cs bs d h f e)
-      go (known d h) e (known d′ h′) f =
-          let p = filled-is-right bs i y d h e in
-          let q = filled-is-right cs i y d′ h′ f in
-          e ∙ ap₂ known (same-distance net va inj i y d d′ h h′ p q) (same-hop net va inj i y d d′ h h′ p q) ∙ sym f
-
   -- h
-  pub unstarted-unknown : (bs : List Step) (i : ℕ) → phase net bs i ≡ unstarted → (y : ℕ) → entry net bs i y ≡ unknown
-  unstarted-unknown bs i e y = ap₂ (λ (ph : Phase) (es : List Filled). said ph (find y es)) e (ok-of bs i .blank e .1)
+  pub unstarted-unknown : (i : ℕ) → nodes i .phase ≡ unstarted → (y : ℕ) → entryOf (nodes i) y ≡ unknown
+  unstarted-unknown i e y = ap₂ (λ (ph : Phase) (es : List Filled). said ph (find y es)) e (lawful .ok i .blank e .1)
 
-  pub own-known : (bs : List Step) (i : ℕ) → phase net bs i ≢ unstarted → entry net bs i i ≡ known 0 0
-  own-known bs i ne =
-      let r = has-entry i (table net bs i) (ok-of bs i .own ne) in
-      let e : entry net bs i i ≡ known (r .0 .distance) (r .0 .hop) = ap (λ (k : ℕ). entry net bs i k) (r .2) ∙ filled-known bs i (r .0) (r .1) in
-      let ri = filled-is-right bs i i (r .0 .distance) (r .0 .hop) e in
+  pub own-known : (i : ℕ) → nodes i .phase ≢ unstarted → entryOf (nodes i) i ≡ known 0 0
+  own-known i ne =
+      let r = has-entry i (nodes i .table) (lawful .ok i .own ne) in
+      let e : entryOf (nodes i) i ≡ known (r .0 .distance) (r .0 .hop) = ap (λ (k : ℕ). entryOf (nodes i) k) (r .2)
+      ∙ filled-known i (r .0) (r .1) in
+      let ri = filled-is-right i i (r .0 .distance) (r .0 .hop) e in
       e ∙ ap₂ known (own-distance (net .arcs) i (r .0 .distance) (ri .distance)) (zero-hop (r .0 .distance) (r .0 .hop) (ri .hop))
     where
       zero-hop : (d h : ℕ) → ((i ≡ i) × (h ≡ 0)) ⊎ ((i ≢ i) × FirstHop net i i d h) → h ≡ 0
       zero-hop d h (inl a) = a .1
       zero-hop d h (inr a) = absurd (a .0 refl)
 
-  pub hop-zero : (bs : List Step) (i y d h : ℕ) → entry net bs i y ≡ known d h → (h ≡ 0) ↔ (y ≡ i)
-  hop-zero bs i y d h e = go (filled-is-right bs i y d h e .hop)
+  pub hop-zero : (i y d h : ℕ) → entryOf (nodes i) y ≡ known d h → (h ≡ 0) ↔ (y ≡ i)
+  hop-zero i y d h e = go (filled-is-right i y d h e .hop)
     where
       go : ((y ≡ i) × (h ≡ 0)) ⊎ ((y ≢ i) × FirstHop net i y d h) → (h ≡ 0) ↔ (y ≡ i)
       go (inl a) = (λ q. a .0, λ q. a .1)
@@ -166,3 +128,45 @@ module _ (net : Net) (va : Valid net) where
           let s = a .1 .starts in
           let at = va .heads i h (s .len) (s .arc) in
           (λ q. absurd (omega (arith, at .0)), λ q. absurd (a .0 q))
+
+-- b
+module _ (net : Net) (va : Valid net) (nodes nodes′ : ℕ → Node) (before : Lawful net nodes) (after : Lawful net nodes′) (i : ℕ)
+    (later : Later (nodes i) (nodes′ i)) where
+  pub final : (y : ℕ) → entryOf (nodes i) y ≢ unknown → entryOf (nodes′ i) y ≡ entryOf (nodes i) y
+  final y ne = go (entryOf (nodes i) y) refl
+    where
+      go : (x : Entry) → entryOf (nodes i) y ≡ x → entryOf (nodes′ i) y ≡ entryOf (nodes i) y
+      go unknown e = absurd (ne e)
+      go unreachable e =
+          let u = unreachable-no-chain net va nodes before i y e in
+          no-chain-unreachable net va nodes′ after i y (still-stopped (nodes i .phase) (nodes′ i .phase) (u .0) (later .stage-le)) (u .1)
+          ∙ sym e
+      go (known d h) e =
+          let g = later .moreTable in
+          let m : In (filled y d h) (g .0 ++ nodes i .table) =
+          in-more (filled y d h) (g .0) (nodes i .table) (known-filled net va nodes before i y d h e) in
+          filled-known net va nodes′ after i (filled y d h) (subst (λ (t : List Filled). In (filled y d h) t) (sym (g .1)) m) ∙ sym e
+
+-- c
+module _ (net : Net) (va : Valid net) where
+  apart : (nodes nodes′ : ℕ → Node) → Lawful net nodes → Lawful net nodes′ → (i y d h : ℕ) → entryOf (nodes i) y ≡ unreachable
+      → entryOf (nodes′ i) y ≡ known d h → ⊥
+  apart nodes nodes′ one other i y d h e f =
+      unreachable-no-chain net va nodes one i y e .1 d (filled-is-right net va nodes′ other i y d h f .distance .chain)
+
+  -- two runs of any kind
+  pub orders-agree : Ranked net → (nodes nodes′ : ℕ → Node) → Lawful net nodes → Lawful net nodes′ → (i y : ℕ)
+      → entryOf (nodes i) y ≢ unknown → entryOf (nodes′ i) y ≢ unknown → entryOf (nodes i) y ≡ entryOf (nodes′ i) y
+  orders-agree inj nodes nodes′ one other i y nb nc = go (entryOf (nodes i) y) refl (entryOf (nodes′ i) y) refl
+    where
+      go : (x : Entry) → entryOf (nodes i) y ≡ x → (w : Entry) → entryOf (nodes′ i) y ≡ w → entryOf (nodes i) y ≡ entryOf (nodes′ i) y
+      go unknown e w f = absurd (nb e)
+      go unreachable e unknown f = absurd (nc f)
+      go unreachable e unreachable f = e ∙ sym f
+      go unreachable e (known d h) f = absurd (apart nodes nodes′ one other i y d h e f)
+      go (known d h) e unknown f = absurd (nc f)
+      go (known d h) e unreachable f = absurd (apart nodes′ nodes other one i y d h f e)
+      go (known d h) e (known d′ h′) f =
+          let p = filled-is-right net va nodes one i y d h e in
+          let q = filled-is-right net va nodes′ other i y d′ h′ f in
+          e ∙ ap₂ known (same-distance net va inj i y d d′ h h′ p q) (same-hop net va inj i y d d′ h h′ p q) ∙ sym f

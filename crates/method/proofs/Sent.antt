@@ -39,6 +39,12 @@ parts (label y ∷ s) = let h = parts s in omega arith
 parts (len x ∷ s) = let h = parts s in omega arith
 parts (end ∷ s) = let h = parts s in omega arith
 
+pub labels-append : (g s : List Msg) → labels (g ++ s) ≡ labels g ++ labels s
+labels-append [] s = refl
+labels-append (label y ∷ g) s = ap (λ (r : List ℕ). y ∷ r) (labels-append g s)
+labels-append (len x ∷ g) s = labels-append g s
+labels-append (end ∷ g) s = labels-append g s
+
 abbrev pub Labelled : ℕ → List Msg → Type 0
 Labelled y s = Among y (labels s)
 
@@ -53,7 +59,7 @@ Good ar j (label y ∷ s) = Good ar j s × Distance ar j y (lastLen s) × (Label
 Good ar j (len x ∷ s) = Good ar j s × (lastLen s < x) × Complete ar j x s
 Good ar j (end ∷ s) = Good ar j s × ((y d : ℕ) → Chain ar j y d → Labelled y s)
 
-good-tail : (ar : List Arc) (j : ℕ) (m : Msg) (s : List Msg) → Good ar j (m ∷ s) → Good ar j s
+pub good-tail : (ar : List Arc) (j : ℕ) (m : Msg) (s : List Msg) → Good ar j (m ∷ s) → Good ar j s
 good-tail ar j (label y) s g = g .0
 good-tail ar j (len x) s g = g .0
 good-tail ar j end s g = g .0
@@ -101,10 +107,10 @@ labelled-more y (len x ∷ e) s h = labelled-more y e s h
 labelled-more y (end ∷ e) s h = labelled-more y e s h
 
 -- sending a length: nothing where it is the last one, else one message
-abbrev Sending : List Msg → ℕ → List Msg → Type 0
+abbrev pub Sending : List Msg → ℕ → List Msg → Type 0
 Sending s x r = ((r ≡ s) × (lastLen s ≡ x)) ⊎ ((r ≡ len x ∷ s) × (lastLen s ≢ x))
 
-sending : (s : List Msg) (x : ℕ) → Sending s x (sendLen s x)
+pub sending : (s : List Msg) (x : ℕ) → Sending s x (sendLen s x)
 sending s x = go (eqb (lastLen s) x) refl
   where
     go : (b : Bool) → eqb (lastLen s) x ≡ b → Sending s x (cond b s (len x ∷ s))
@@ -126,7 +132,8 @@ sendLen-adds s x = go (sending s x)
     go (inr e) = (len x ∷ [], e .0)
 
 -- what a length does not change
-sendLen-same : {A : Type 0} (f : List Msg → A) → ((s : List Msg) (x : ℕ) → f (len x ∷ s) ≡ f s) → (s : List Msg) (x : ℕ) → f (sendLen s x) ≡ f s
+sendLen-same : {A : Type 0} (f : List Msg → A) → ((s : List Msg) (x : ℕ) → f (len x ∷ s) ≡ f s) → (s : List Msg) (x : ℕ)
+    → f (sendLen s x) ≡ f s
 sendLen-same f same s x = go (sending s x)
   where
     go : Sending s x (sendLen s x) → f (sendLen s x) ≡ f s
@@ -139,7 +146,8 @@ sendLen-labels s x = sendLen-same labels (λ s x. refl) s x
 pub sendLen-ends : (s : List Msg) (x : ℕ) → ends (sendLen s x) ≡ ends s
 sendLen-ends s x = sendLen-same ends (λ s x. refl) s x
 
-pub sendLen-good : (ar : List Arc) (i : ℕ) (s : List Msg) (x : ℕ) → Good ar i s → lastLen s ≤ x → Complete ar i x s → Good ar i (sendLen s x)
+pub sendLen-good : (ar : List Arc) (i : ℕ) (s : List Msg) (x : ℕ) → Good ar i s → lastLen s ≤ x → Complete ar i x s
+    → Good ar i (sendLen s x)
 sendLen-good ar i s x g le c = go (sending s x)
   where
     go : Sending s x (sendLen s x) → Good ar i (sendLen s x)

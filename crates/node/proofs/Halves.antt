@@ -9,7 +9,7 @@ use native.Mathlib.Numerals.{add-one}
 use lib.Dec.{ltb}
 use borrow.Author.Tests.{ltb-true, ltb-false, lt-ltb, le-ltb}
 use Rattle.method.specs.Rules.{Choice}
-use Rattle.cells.specs.Part.{Part, noSum}
+use Rattle.cells.specs.Part.{Part, sumsAt, noSum}
 use Rattle.node.specs.Rules.{least}
 
 -- the lesser sum of two, of equals the first
@@ -27,7 +27,7 @@ lesser-assoc a b c = go (ltb (b .sum) (a .sum)) refl (ltb (c .sum) (b .sum)) ref
 
 -- the arc to a head
 abbrev pub arcTo : Part → ℕ → Choice
-arcTo f h = record { sum = f (40 + h); head = h }
+arcTo f h = record { sum = f (sumsAt + h); head = h }
 
 -- the least of the k heads after b
 unfoldable pub after : Part → ℕ → ℕ → Choice
@@ -47,10 +47,11 @@ after-suc f b k =
 none-least : (f : Part) (k : ℕ) → least f k .sum ≤ noSum
 unfolding least
 none-least f zero = le-refl noSum
-none-least f (suc k) = go (none-least f k) (ltb (f (40 + suc k)) (least f k .sum)) refl
+none-least f (suc k) = go (none-least f k) (ltb (f (sumsAt + suc k)) (least f k .sum)) refl
   where
-    go : least f k .sum ≤ noSum → (b : Bool) → ltb (f (40 + suc k)) (least f k .sum) ≡ b → cond b (arcTo f (suc k)) (least f k) .sum ≤ noSum
-    go ih true e = omega (arith, ltb-true (f (40 + suc k)) (least f k .sum) e)
+    go : least f k .sum ≤ noSum → (b : Bool) → ltb (f (sumsAt + suc k)) (least f k .sum) ≡ b
+        → cond b (arcTo f (suc k)) (least f k) .sum ≤ noSum
+    go ih true e = omega (arith, ltb-true (f (sumsAt + suc k)) (least f k .sum) e)
     go ih false e = ih
 
 -- the lesser of both halves
@@ -58,10 +59,12 @@ pub halves : (f : Part) (b k : ℕ) → least f (b + k) ≡ lesserOf (least f b)
 unfolding least after
 halves f b zero =
     let e : b + 0 ≡ b = omega arith in
-    ap (least f) e ∙ sym (ap (λ (t : Bool). cond t (record { sum = noSum; head = 0 }) (least f b)) (le-ltb noSum (least f b .sum) (none-least f b)))
+    ap (least f) e ∙ sym (ap (λ (t : Bool). cond t (record { sum = noSum; head = 0 }) (least f b))
+    (le-ltb noSum (least f b .sum) (none-least f b)))
 halves f b (suc k) =
     let e : b + suc k ≡ suc (b + k) = omega arith in
-    ap (least f) e ∙ ap (λ (c : Choice). lesserOf c (arcTo f (suc (b + k)))) (halves f b k) ∙ lesser-assoc (least f b) (after f b k) (arcTo f (suc (b + k)))
+    ap (least f) e ∙ ap (λ (c : Choice). lesserOf c (arcTo f (suc (b + k)))) (halves f b k)
+    ∙ lesser-assoc (least f b) (after f b k) (arcTo f (suc (b + k)))
 
 -- the code's `lesser`, where a sum s of head h stands for a, and x of k for b
 pub lesser-is : (a b c : Choice) (s h x k : ℕ) → s ≡ a .sum → h ≡ a .head → x ≡ b .sum → k ≡ b .head → c ≡ lesserOf a b

@@ -13,7 +13,7 @@ use Rattle.method.specs.Work.{heard, untaken, work}
 use Rattle.method.proofs.Again.{Held}
 use Rattle.method.proofs.Enough.{work-rests}
 use Rattle.network.specs.Layout.{netOf, Laid}
-use Rattle.cells.specs.Part.{Part, nodeOf, siteOf}
+use Rattle.cells.specs.Part.{Part, lpAt, nodeOf, siteOf}
 use Rattle.cells.specs.Stores.{Stored, stopped}
 use Rattle.cells.proofs.Meaning.{stopped-phase, stop-site}
 use Rattle.cells.proofs.Caching.{stop-caches}
@@ -70,7 +70,7 @@ going-working p w = (w .0, p .ready (w .0) (w .1))
 
 module _ (g : List ℕ) (la : Laid g) (i : ℕ) where
   -- rules 1 and 2
-  module _ (m : ℕ → Part) (x h lp lmax : ℕ) (is : IsChoice (m i) x h) (el : lp ≡ m i 3) (em : lmax ≡ getD g 1 0) where
+  module _ (m : ℕ → Part) (x h lp lmax : ℕ) (is : IsChoice (m i) x h) (el : lp ≡ m i lpAt) (em : lmax ≡ getD g 1 0) where
     pub chosen : x ≤ lp + lmax → Going g i (to₃ (pick x h)) m m
     chosen le =
         record {
@@ -85,7 +85,10 @@ module _ (g : List ℕ) (la : Laid g) (i : ℕ) where
         }
 
     pub stopped-there : (n : ℕ → Part) → lp + lmax < x → Stored m i (stopped (m i)) n → Worked g m i n
-    stopped-there n lt st = record { there = st .there; does = λ ss rd. subst (λ (f : Part). Did g ss i (m i) f) (sym (st .here)) (done ss rd) }
+    stopped-there n lt st = record {
+      there = st .there;
+      does = λ ss rd. subst (λ (f : Part). Did g ss i (m i) f) (sym (st .here)) (done ss rd);
+    }
       where
         done : (ss : ℕ → List Msg) → Ready g ss m i → Did g ss i (m i) (stopped (m i))
         done ss rd =
@@ -99,10 +102,10 @@ module _ (g : List ℕ) (la : Laid g) (i : ℕ) where
 
   -- rules 3 and 4
   module _ (m₀ m : ℕ → Part) (x h : ℕ) (go : Going g i (to₃ (pick x h)) m₀ m) where
-    pub able-there : Working g m₀ i → Able g m i h x
+    pub able-there : Working g m₀ i → Able m i h x
     able-there w = able g la (w .0) m i (go .ready (w .0) (w .1)) x h (go .held (w .0) (w .1))
 
-    module _ (n : ℕ → Part) (r : Heard) (took : Stored m i (takes g m i h x) n × (r ≡ tookOf m i h)) where
+    module _ (n : ℕ → Part) (r : Heard) (took : Stored m i (takes m i h x) n × (r ≡ tookOf m i h)) where
       went : (ss : ℕ → List Msg) → Ready g ss m₀ i → Went g ss i (pick x h) m n r
       went ss rd =
           subst (λ (a : Heard). Went g ss i (pick x h) m n a) (sym (took .1))

@@ -9,12 +9,13 @@ use native.Mathlib.Omega.{arith}
 use lib.Dec.{leb, eqb}
 use lib.ListN.{length}
 use borrow.Author.Tests.{leb-true, leb-false, eqb-true, eqb-false, ne-eqb}
-use Rattle.method.specs.Message.{Msg, label, len, end, item, sentAfter}
+use Rattle.method.specs.Message.{Msg, label, len, end, lastLen, item, sentAfter}
 use Rattle.method.specs.Rules.{Choice, fill, Go, to₁, to₃, took}
 use Rattle.method.specs.Work.{Site, heard, turnAt, became, tookOne, untaken, work}
 use Rattle.method.proofs.Again.{Held}
 use Rattle.network.specs.Layout.{lenAt, netOf, Laid}
-use Rattle.cells.specs.Part.{Part, noSum, sumOf, msgOf, row, nodeOf, siteOf}
+use Rattle.cells.specs.Part.{Part, entryMost, tableSize, labelMost, entryCount, lastAt, deliveredAt, takenAt, sumsAt, marksAt, noSum, sumOf}
+use Rattle.cells.specs.Part.{msgOf, row, nodeOf, siteOf}
 use Rattle.cells.specs.Stores.{upd, Stored, counted, waited, filled}
 use Rattle.cells.specs.Caches.{Caches}
 use Rattle.cells.proofs.Meaning.{hit, skip, counted-else, row-at, label-is, length-is, taken-site, sum-site, fill-site}
@@ -24,7 +25,7 @@ use Rattle.node.specs.declared.Heard.the-variants.{Nothing, Label, Lengt
 use Rattle.node.specs.Rules.{hears, heardOf, nextOf, takes, tookOf}
 use Rattle.node.specs.Working.{Ready, Did}
 use Rattle.node.proofs.Limits.{table-low}
-use Rattle.node.proofs.Taking.{goes-on, on, h-low, waits-there, inside, msg-is, takes-msg, has-one, new-label, room}
+use Rattle.node.proofs.Taking.{goes-on, on, h-low, waits-there, inside, msg-is, takes-msg, has-one, new-label, room, last-le}
 
 -- the work goes on, from rule 1 or rule 3
 abbrev pub GoesOn : List ℕ → (ℕ → List Msg) → ℕ → (ℕ → Part) → (ℕ → Part) → Go → Type 0
@@ -48,104 +49,119 @@ module _ (g : List ℕ) (la : Laid g) (ss : ℕ → List Msg) (m n : ℕ → Par
   f = m i
 
   abbrev c : Part
-  c = counted (m i) (23 + h)
+  c = counted (m i) (takenAt + h)
 
-  low : h < 17
+  low : h < tableSize
   low = h-low g la ss m i rd x h held
 
-  few : f 2 ≤ 16
+  few : f entryCount ≤ entryMost
   few = table-low g la ss m i rd
 
   abbrev w : ℕ
   w = nextOf m i h
 
-  kept : (o : ℕ) → o ≢ 23 + h → c o ≡ f o
-  kept o ne = counted-else f (23 + h) o ne
+  kept : (o : ℕ) → o ≢ takenAt + h → c o ≡ f o
+  kept o ne = counted-else f (takenAt + h) o ne
 
-  module _ (there : (j : ℕ) → j ≢ i → n j ≡ m j) (lt : m i (23 + h) < m i (6 + h)) where
-    msg-row : sentAfter (row f 23 h) (ss h) ≡ msgOf w
-    msg-row = ap (λ (k : ℕ). sentAfter k (ss h)) (row-at f 23 h low) ∙ msg-is g la ss m i rd x h held lt
+  module _ (there : (j : ℕ) → j ≢ i → n j ≡ m j) (lt : m i (takenAt + h) < m i (deliveredAt + h)) where
+    abbrev so-far : List Msg
+    so-far = heard ss (siteOf f) h
 
-    inside-row : row f 23 h < length (ss h)
-    inside-row = omega (arith, row-at f 23 h low, inside g la ss m i rd x h held lt)
+    msg-row : sentAfter (row f takenAt h) (ss h) ≡ msgOf so-far w
+    msg-row = ap (λ (k : ℕ). sentAfter k (ss h)) (row-at f takenAt h low) ∙ msg-is g la ss m i rd x h held lt
+
+    inside-row : row f takenAt h < length (ss h)
+    inside-row = omega (arith, row-at f takenAt h low, inside g la ss m i rd x h held lt)
 
     -- a length or the end: its arc has the sum v
-    new-sum : (v : ℕ) (a : Msg) → msgOf w ≡ a → v ≡ sumOf (lenAt g i h) (item (a ∷ heard ss (siteOf f) h))
-        → turnAt (netOf g) i ss to₁ (siteOf f) ≡ took h (nodeOf f) to₁ → n i ≡ upd c (40 + h) v → GoesOn g ss i m n to₁
+    new-sum : (v : ℕ) (a : Msg) → msgOf so-far w ≡ a → v ≡ sumOf (lenAt g i h) (item (a ∷ heard ss (siteOf f) h))
+        → turnAt (netOf g) i ss to₁ (siteOf f) ≡ took h (nodeOf f) to₁ → n i ≡ upd c (sumsAt + h) v → GoesOn g ss i m n to₁
     new-sum v a ea ev turned e =
         goes-on g la ss m i rd h (nodeOf f) to₁ turned n (ap siteOf e ∙ site) (subst (λ (f′ : Part). Caches g i ss f′) (sym e) caches) there
       where
-        site : siteOf (upd c (40 + h) v) ≡ tookOne (siteOf f) h (nodeOf f)
+        site : siteOf (upd c (sumsAt + h) v) ≡ tookOne (siteOf f) h (nodeOf f)
         site = sum-site c h v low ∙ taken-site f h low
 
-        same : (q : ℕ) → q ≢ 40 + h → q ≢ 23 + h → upd c (40 + h) v q ≡ f q
-        same q n40 n23 = skip c (40 + h) v q n40 ∙ kept q n23
+        same : (q : ℕ) → q ≢ sumsAt + h → q ≢ takenAt + h → upd c (sumsAt + h) v q ≡ f q
+        same q n40 n23 = skip c (sumsAt + h) v q n40 ∙ kept q n23
 
-        caches : Caches g i ss (upd c (40 + h) v)
+        caches : Caches g i ss (upd c (sumsAt + h) v)
         caches =
-            took-caches g i ss f (upd c (40 + h) v) h low few (rd .caches) inside-row site (same 2 (omega arith) (omega arith)) (same 4 (omega arith) (omega arith))
+            took-caches g i ss f (upd c (sumsAt + h) v) h low few (rd .caches) inside-row site
+            (same entryCount (omega arith) (omega arith)) (same lastAt (omega arith) (omega arith))
             (λ q lo hi ne. same q ne (omega (arith, low)))
-            (hit c (40 + h) v ∙ ev ∙ ap (λ (b : Msg). sumOf (lenAt g i h) (item (b ∷ heard ss (siteOf f) h))) (sym (msg-row ∙ ea)))
+            (hit c (sumsAt + h) v ∙ ev ∙ ap (λ (b : Msg). sumOf (lenAt g i h) (item (b ∷ heard ss (siteOf f) h))) (sym (msg-row ∙ ea)))
 
     -- a label
-    module _ (pos : 1 ≤ w) (le : w ≤ 16) where
+    module _ (pos : 1 ≤ w) (le : w ≤ labelMost) where
       c-caches : Caches g i ss c
       c-caches =
-          took-caches g i ss f c h low few (rd .caches) inside-row (taken-site f h low) (kept 2 (omega arith)) (kept 4 (omega arith))
+          took-caches g i ss f c h low few (rd .caches) inside-row (taken-site f h low) (kept entryCount (omega arith))
+          (kept lastAt (omega arith))
           (λ q lo hi ne. kept q (omega (arith, low)))
-          (kept (40 + h) (omega arith) ∙ rd .caches .sums h low
-          ∙ ap (λ (b : Msg). sumOf (lenAt g i h) (item (b ∷ heard ss (siteOf f) h))) (sym (msg-row ∙ label-is w pos le)))
+          (kept (sumsAt + h) (omega arith) ∙ rd .caches .sums h low
+          ∙ ap (λ (b : Msg). sumOf (lenAt g i h) (item (b ∷ heard ss (siteOf f) h))) (sym (msg-row ∙ label-is so-far w pos le)))
 
-      known-label : c (57 + w) ≢ 0 → n i ≡ c → GoesOn g ss i m n (to₃ p)
+      known-label : c (marksAt + w) ≢ 0 → n i ≡ c → GoesOn g ss i m n (to₃ p)
       known-label ne e =
-          goes-on g la ss m i rd h (nodeOf f) (to₃ p) turned n (ap siteOf e ∙ taken-site f h low) (subst (λ (f′ : Part). Caches g i ss f′) (sym e) c-caches) there
+          goes-on g la ss m i rd h (nodeOf f) (to₃ p) turned n (ap siteOf e ∙ taken-site f h low)
+          (subst (λ (f′ : Part). Caches g i ss f′) (sym e) c-caches) there
         where
           turned : turnAt (netOf g) i ss to₁ (siteOf f) ≡ took h (nodeOf f) (to₃ p)
           turned =
-              takes-msg g la ss m i rd x h held lt (label w) (label-is w pos le)
+              takes-msg g la ss m i rd x h held lt (label w) (label-is so-far w pos le)
               ∙ ap (λ (b : Bool). took h (cond b (nodeOf f) (fill (nodeOf f) p w)) (to₃ p))
-              (has-one g la ss m i rd x h held lt le (f (57 + w)) refl (λ z. ne (kept (57 + w) (omega (arith, low)) ∙ z)))
+              (has-one g la ss m i rd x h held lt le (f (marksAt + w)) refl (λ z. ne (kept (marksAt + w) (omega (arith, low)) ∙ z)))
 
-      unknown-label : c (57 + w) ≡ 0 → n i ≡ filled c h x w → GoesOn g ss i m n (to₃ p)
+      unknown-label : c (marksAt + w) ≡ 0 → n i ≡ filled c h x w → GoesOn g ss i m n (to₃ p)
       unknown-label z e =
           goes-on g la ss m i rd h (fill (nodeOf f) p w) (to₃ p) (new-label g la ss m i rd x h held lt pos le zero) n (ap siteOf e ∙ site)
-          (subst (λ (f′ : Part). Caches g i ss f′) (sym e) (fill-caches g i ss c h x w fits le c-caches)) there
+          (subst (λ (f′ : Part). Caches g i ss f′) (sym e) (fill-caches g i ss c h x w fits le up c-caches)) there
         where
-          zero : f (57 + w) ≡ 0
-          zero = sym (kept (57 + w) (omega (arith, low))) ∙ z
+          zero : f (marksAt + w) ≡ 0
+          zero = sym (kept (marksAt + w) (omega (arith, low))) ∙ z
 
-          fits : c 2 < 16
-          fits = omega (arith, kept 2 (omega arith), room g la ss m i rd x h held lt pos le zero .1)
+          up : c lastAt ≤ x
+          up = omega (arith, kept lastAt (omega arith), last-le g la ss m i rd x h held)
+
+          fits : c entryCount < entryMost
+          fits = omega (arith, kept entryCount (omega arith), room g la ss m i rd x h held lt pos le zero .1)
 
           site : siteOf (filled c h x w) ≡ tookOne (siteOf f) h (fill (nodeOf f) p w)
-          site = fill-site c h x w fits pos le (c-caches .last) ∙ ap (λ (s : Site). became s (fill (s .node) p w)) (taken-site f h low)
+          site = fill-site c h x w fits pos le (c-caches .last) up ∙ ap (λ (s : Site). became s (fill (s .node) p w)) (taken-site f h low)
 
-    went : n i ≡ hears g i c h x w → Went g ss i p m n (heardOf w)
+    went : n i ≡ hears c h x w → Went g ss i p m n (heardOf w)
     unfolding hears
-    went e = go (eqb w 0) refl (leb w 16) refl e
+    went e = go (eqb w 0) refl (leb w labelMost) refl e
       where
         far : lenAt g i h ≢ 255
         far q = omega (arith, on g la ss m i rd x h held .len)
 
-        label-went : w ≢ 0 → w ≤ 16 → (b : Bool) → eqb (c (57 + w)) 0 ≡ b → n i ≡ cond b (filled c h x w) c → GoesOn g ss i m n (to₃ p)
-        label-went ne le true eb q = unknown-label (omega arith) le (eqb-true (c (57 + w)) 0 eb) q
-        label-went ne le false eb q = known-label (omega arith) le (eqb-false (c (57 + w)) 0 eb) q
+        label-went : w ≢ 0 → w ≤ labelMost → (b : Bool) → eqb (c (marksAt + w)) 0 ≡ b → n i ≡ cond b (filled c h x w) c
+            → GoesOn g ss i m n (to₃ p)
+        label-went ne le true eb q = unknown-label (omega arith) le (eqb-true (c (marksAt + w)) 0 eb) q
+        label-went ne le false eb q = known-label (omega arith) le (eqb-false (c (marksAt + w)) 0 eb) q
 
-        go : (a : Bool) → eqb w 0 ≡ a → (b : Bool) → leb w 16 ≡ b
-            → n i ≡ cond a (upd c (40 + h) noSum) (cond b (cond (eqb (c (57 + w)) 0) (filled c h x w) c) (upd c (40 + h) (lenAt g i h + (w - 17))))
+        go : (a : Bool) → eqb w 0 ≡ a → (b : Bool) → leb w labelMost ≡ b
+            → n i ≡ cond a (upd c (sumsAt + h) noSum)
+            (cond b (cond (eqb (c (marksAt + w)) 0) (filled c h x w) c) (upd c (sumsAt + h) (x + (w - labelMost))))
             → Went g ss i p m n (cond a Length (cond b Label Length))
         go true ea b eb q =
-            let is : msgOf w ≡ end = ap msgOf (eqb-true w 0 ea) in
+            let is : msgOf so-far w ≡ end = ap (msgOf so-far) (eqb-true w 0 ea) in
             new-sum noSum end is (rw (ne-eqb (lenAt g i h) 255 far)) (takes-msg g la ss m i rd x h held lt end is) q
-        go false ea true eb q = label-went (eqb-false w 0 ea) (leb-true w 16 eb) (eqb (c (57 + w)) 0) refl q
+        go false ea true eb q = label-went (eqb-false w 0 ea) (leb-true w labelMost eb) (eqb (c (marksAt + w)) 0) refl q
         go false ea false eb q =
-            let is : msgOf w ≡ len (w - 17) = length-is w (leb-false w 16 eb) in
-            new-sum (lenAt g i h + (w - 17)) (len (w - 17)) is (rw (ne-eqb (lenAt g i h) 255 far)) (takes-msg g la ss m i rd x h held lt (len (w - 17)) is) q
+            let v = lastLen so-far + (w - labelMost) in
+            let is : msgOf so-far w ≡ len v = length-is so-far w (leb-false w labelMost eb) in
+            let sum : x + (w - labelMost) ≡ lenAt g i h + v = omega (arith, on g la ss m i rd x h held .sum) in
+            new-sum (x + (w - labelMost)) (len v) is (rw (ne-eqb (lenAt g i h) 255 far) sum)
+            (takes-msg g la ss m i rd x h held lt (len v) is) q
 
-  pub takes-went : Stored m i (takes g m i h x) n → Went g ss i p m n (tookOf m i h)
+  pub takes-went : Stored m i (takes m i h x) n → Went g ss i p m n (tookOf m i h)
   unfolding takes
-  takes-went st = go (leb (m i (6 + h)) (m i (23 + h))) refl (st .here)
+  takes-went st = go (leb (m i (deliveredAt + h)) (m i (takenAt + h))) refl (st .here)
     where
-      go : (b : Bool) → leb (m i (6 + h)) (m i (23 + h)) ≡ b → n i ≡ cond b (waited f x h) (hears g i c h x w) → Went g ss i p m n (cond b Nothing (heardOf w))
-      go true eb q = waits-there g la ss m i rd x h held n q (leb-true (m i (6 + h)) (m i (23 + h)) eb)
-      go false eb q = went (st .there) (leb-false (m i (6 + h)) (m i (23 + h)) eb) q
+      go : (b : Bool) → leb (m i (deliveredAt + h)) (m i (takenAt + h)) ≡ b → n i ≡ cond b (waited f x h) (hears c h x w)
+          → Went g ss i p m n (cond b Nothing (heardOf w))
+      go true eb q = waits-there g la ss m i rd x h held n q (leb-true (m i (deliveredAt + h)) (m i (takenAt + h)) eb)
+      go false eb q = went (st .there) (leb-false (m i (deliveredAt + h)) (m i (takenAt + h)) eb) q

@@ -4,9 +4,9 @@ ghost use Prim.Native.Nat.{_+_, _-_, _≤_, _<_};
 ghost use lib.ListN.{length};
 ghost use lib.Dec.{ltb};
 ghost use Rattle.method.specs.If.{if_then_else_};
-ghost use Rattle.network.specs.Layout.{lenAt, Laid};
-ghost use Rattle.cells.specs.Part.{cells, stateSize};
-ghost use Rattle.cells.specs.Stores.{Stored};
+ghost use Rattle.network.specs.Layout.{Laid};
+ghost use Rattle.cells.specs.Part.{cells, stateSize, labelMost, noSum};
+ghost use Rattle.cells.specs.Stores.{Stored, Rises};
 ghost use Rattle.node.specs.Rules.{IsChoice, hears, takes, heardOf, tookOf, Able, Room};
 ghost use Rattle.node.specs.Working.{Working, Worked};
 use cells::*;
@@ -29,8 +29,8 @@ pub fn lesser(c: Chosen, x: usize, h: usize) -> Chosen
 
 // Rule 1: of i's arcs the one with the least sum; of equals, the lowest head. Heads 1 to 8 and 9 to 16 side by side, since neither half
 // has to wait for the other.
-pub fn choose(s: &[u16], i: usize) -> Chosen
-    requires { ⌜ (i < 17) × (length (now s) ≡ stateSize) ⌝ }
+pub fn choose(s: &[u8], i: usize) -> Chosen
+    requires { ⌜ (1 ≤ i) × (i < 17) × (length (now s) ≡ stateSize) ⌝ }
     ensures { λ r. ⌜ IsChoice (cells (now (s .entry)) i) (r .sum) (r .head) ⌝ }
 {
     let mut a = Chosen {
@@ -59,10 +59,12 @@ pub enum Heard {
     Length,
 }
 
-// Rule 4: message w of the arc to h, of sum x, is heard.
-pub fn hear(net: &[u8], s: &mut [u16], i: usize, h: usize, x: usize, w: usize) -> Heard
-    requires { ⌜ (i < 17) × (h < 17) × (x ≤ 255) × (lenAt (now net) i h + (w - 17) ≤ 65535) × Room (cells (now s) i) w × (length (now net) ≡ 772) × (length (now s) ≡ stateSize) ⌝ }
-    ensures { λ r. ⌜ Stored (cells (now (s .entry))) i (hears (now (net .entry)) i (cells (now (s .entry)) i) h x w) (cells (now (s .exit))) × (r ≡ heardOf w) ⌝ }
+// Rule 4: the message of code w, on the arc to h of sum x, is heard. A length comes as its rise, which the sum rises by.
+pub fn hear(s: &mut [u8], i: usize, h: usize, x: usize, w: usize) -> Heard
+    requires { ⌜ (1 ≤ i) × (i < 17) × (h < 17) × (x + (w - labelMost) ≤ noSum) × Rises (cells (now s) i) x × Room (cells (now s) i) w
+        × (length (now s) ≡ stateSize) ⌝ }
+    ensures { λ r. ⌜ Stored (cells (now (s .entry))) i (hears (cells (now (s .entry)) i) h x w) (cells (now (s .exit)))
+        × (r ≡ heardOf w) ⌝ }
 {
     match w {
         0 => {
@@ -77,17 +79,17 @@ pub fn hear(net: &[u8], s: &mut [u16], i: usize, h: usize, x: usize, w: usize) -
             Heard::Label
         }
         _ => {
-            let l = length_of(net, i, h);
-            put(s, i, SUMS + h, l + (w - 17));
+            put(s, i, SUMS + h, x + (w - LABELS));
             Heard::Length
         }
     }
 }
 
 // Rules 3 and 4: the next message of the arc to h, of sum x, is taken; or there is none, and the node waits for it.
-pub fn take(net: &[u8], s: &mut [u16], i: usize, h: usize, x: usize) -> Heard
-    requires { ⌜ Able (now net) (cells (now s)) i h x × (length (now net) ≡ 772) × (length (now s) ≡ stateSize) ⌝ }
-    ensures { λ r. ⌜ Stored (cells (now (s .entry))) i (takes (now (net .entry)) (cells (now (s .entry))) i h x) (cells (now (s .exit))) × (r ≡ tookOf (cells (now (s .entry))) i h) ⌝ }
+pub fn take(s: &mut [u8], i: usize, h: usize, x: usize) -> Heard
+    requires { ⌜ Able (cells (now s)) i h x × (length (now s) ≡ stateSize) ⌝ }
+    ensures { λ r. ⌜ Stored (cells (now (s .entry))) i (takes (cells (now (s .entry))) i h x) (cells (now (s .exit)))
+        × (r ≡ tookOf (cells (now (s .entry))) i h) ⌝ }
 {
     let t = get(&*s, i, TAKEN + h);
     if get(&*s, i, DELIVERED + h) <= t {
@@ -96,12 +98,13 @@ pub fn take(net: &[u8], s: &mut [u16], i: usize, h: usize, x: usize) -> Heard
     }
     let w = get(&*s, h, MESSAGES + t);
     count(s, i, TAKEN + h);
-    hear(net, s, i, h, x, w)
+    hear(s, i, h, x, w)
 }
 
 // The work of node i from the arc that is first chosen: choosing and taking, until it must wait or has stopped.
-pub fn work_from(net: &[u8], s: &mut [u16], i: usize, first: Chosen)
-    requires { ⌜ Laid (now net) × Working (now net) (cells (now s)) i × IsChoice (cells (now s) i) (first .sum) (first .head) × (length (now s) ≡ stateSize) ⌝ }
+pub fn work_from(net: &[u8], s: &mut [u8], i: usize, first: Chosen)
+    requires { ⌜ Laid (now net) × Working (now net) (cells (now s)) i × IsChoice (cells (now s) i) (first .sum) (first .head)
+        × (length (now s) ≡ stateSize) ⌝ }
     ensures { λ _. ⌜ Worked (now (net .entry)) (cells (now (s .entry))) i (cells (now (s .exit))) ⌝ }
 {
     let lmax = net[LMAX] as usize;
@@ -112,7 +115,7 @@ pub fn work_from(net: &[u8], s: &mut [u16], i: usize, first: Chosen)
             break 'choose;
         }
         'take: loop {
-            let heard = take(net, s, i, chosen.head, chosen.sum);
+            let heard = take(s, i, chosen.head, chosen.sum);
             match heard {
                 Heard::Nothing => break 'choose,
                 Heard::Label => {}
@@ -124,7 +127,7 @@ pub fn work_from(net: &[u8], s: &mut [u16], i: usize, first: Chosen)
 }
 
 // The work of node i, from the choice of an arc.
-pub fn work(net: &[u8], s: &mut [u16], i: usize)
+pub fn work(net: &[u8], s: &mut [u8], i: usize)
     requires { ⌜ Laid (now net) × Working (now net) (cells (now s)) i × (length (now s) ≡ stateSize) ⌝ }
     ensures { λ _. ⌜ Worked (now (net .entry)) (cells (now (s .entry))) i (cells (now (s .exit))) ⌝ }
 {

@@ -13,34 +13,36 @@ use Rattle.method.specs.Rules.{Filled, Phase, unstarted, started, stopped}
 use Rattle.method.specs.Entries.{Entry, said}
 use Rattle.method.specs.Marks.{distanceOf, hopOf}
 use Rattle.method.specs.Room.{begins}
-use Rattle.cells.specs.Part.{Part, cells, marksAt, marked, nodeOf, siteOf}
+use Rattle.cells.specs.Part.{Part, tableSize, marksAt, hopsAt, partSize, cells, marked, nodeOf, siteOf}
 use Rattle.cells.specs.Caches.{Marks}
 use Rattle.entries.specs.Read.{entryOf}
 use Rattle.text.specs.Handed.{place}
 use Rattle.calls.specs.Answers.{withRow, withRows}
 
--- a part of an array of 16-bit numbers has such numbers
-pub cells-small : (l : List ℕ) → ((j : ℕ) → getD l j 0 < 65536) → (i o : ℕ) → cells l i o < 65536
-cells-small l small i o = go (ltb o 379)
+-- a part of an array of bytes has bytes
+pub cells-small : (l : List ℕ) → ((j : ℕ) → getD l j 0 < 256) → (i o : ℕ) → cells l i o < 256
+cells-small l small zero o = omega arith
+cells-small l small (suc i) o = go (ltb o partSize)
   where
-    go : (b : Bool) → cond b (getD l (i * 379 + o) 0) 0 < 65536
-    go true = small (i * 379 + o)
+    go : (b : Bool) → cond b (getD l (i * partSize + o) 0) 0 < 256
+    go true = small (i * partSize + o)
     go false = omega arith
 
 -- so a hop is one
-pub hop-small : (f : Part) → ((o : ℕ) → f o < 65536) → Marks f → (y : ℕ) → y < 17 → hopOf (entryOf (siteOf f) y) < 65536
+pub hop-small : (f : Part) → ((o : ℕ) → f o < 256) → Marks f → (y : ℕ) → y < tableSize → hopOf (entryOf (siteOf f) y) < 256
 hop-small f small marks y lt =
-    subst (λ (o : Option Filled). hopOf (said (nodeOf f .phase) o) < 65536) (sym (marks y lt .1)) (go (f (marksAt + y)) (nodeOf f .phase))
+    subst (λ (o : Option Filled). hopOf (said (nodeOf f .phase) o) < 256) (sym (marks y lt .1)) (go (f (marksAt + y)) (nodeOf f .phase))
   where
-    go : (k : ℕ) (ph : Phase) → hopOf (said ph (marked f k)) < 65536
+    go : (k : ℕ) (ph : Phase) → hopOf (said ph (marked f k)) < 256
     go zero unstarted = omega arith
     go zero started = omega arith
     go zero stopped = omega arith
-    go (suc k) ph = small (106 + k)
+    go (suc k) ph = small (hopsAt + k)
 
 -- node i's entry for k + 1 comes to its row
 pub row-next : (entry : ℕ → Entry) (i k p d h : ℕ) (room now after : List ℕ) → now ≡ withRow entry i k room → p ≡ 2 * (16 * (i - 1) + k)
-    → d ≡ distanceOf (entry (k + 1)) → h ≡ hopOf (entry (k + 1)) → after ≡ set (set now p d) (p + 1) h → after ≡ withRow entry i (k + 1) room
+    → d ≡ distanceOf (entry (k + 1)) → h ≡ hopOf (entry (k + 1)) → after ≡ set (set now p d) (p + 1) h
+    → after ≡ withRow entry i (k + 1) room
 unfolding withRow
 row-next entry i k p d h room now after row there ed eh is =
     let at : p ≡ place i (suc k) = omega arith in
@@ -53,7 +55,8 @@ unfolding withRows
 rows-next entry n i room now after rows is = rw (is, rows, add-one i)
 
 -- four numbers fill a room of four
-pub counts-handed : (room : List ℕ) (t i u k : ℕ) → length room ≡ 4 → set (set (set (set room 0 t) 1 i) 2 u) 3 k ≡ begins (t ∷ i ∷ u ∷ k ∷ []) room
+pub counts-handed : (room : List ℕ) (t i u k : ℕ) → length room ≡ 4
+    → set (set (set (set room 0 t) 1 i) 2 u) 3 k ≡ begins (t ∷ i ∷ u ∷ k ∷ []) room
 counts-handed [] t i u k e = absurd (omega arith)
 counts-handed (a ∷ []) t i u k e = absurd (omega arith)
 counts-handed (a ∷ b ∷ []) t i u k e = absurd (omega arith)

@@ -25,7 +25,7 @@ pub fn hand_entry(entries: &mut [u16], place: usize, distance: u16, hop: u16)
 }
 
 // Hands over node i's entries for the targets 1 to n.
-pub fn hand_row(s: &[u16], entries: &mut [u16], n: usize, i: usize)
+pub fn hand_row(s: &[u8], entries: &mut [u16], n: usize, i: usize)
     requires { ⌜ (n ≤ 16) × IsNode n i × Readable (cells (now s) i) × (length (now s) ≡ stateSize) × (length (now entries) ≡ 512) ⌝ }
     ensures { λ _. ⌜ now (entries .exit) ≡ withRow (entryOf (stateOf (cells (now (s .entry))) i)) i n (now (entries .entry)) ⌝ }
 {
@@ -43,8 +43,9 @@ pub fn hand_row(s: &[u16], entries: &mut [u16], n: usize, i: usize)
 }
 
 // Hands over the entries of the nodes 1 to n.
-pub fn hand_rows(s: &[u16], entries: &mut [u16], n: usize)
-    requires { ⌜ (n ≤ 16) × ((j : ℕ) → IsNode n j → Readable (cells (now s) j)) × (length (now s) ≡ stateSize) × (length (now entries) ≡ 512) ⌝ }
+pub fn hand_rows(s: &[u8], entries: &mut [u16], n: usize)
+    requires { ⌜ (n ≤ 16) × ((j : ℕ) → IsNode n j → Readable (cells (now s) j)) × (length (now s) ≡ stateSize)
+        × (length (now entries) ≡ 512) ⌝ }
     ensures { λ _. ⌜ now (entries .exit) ≡ withRows (λ i. entryOf (stateOf (cells (now (s .entry))) i)) n n (now (entries .entry)) ⌝ }
 {
     let mut i: usize = 0;
@@ -81,7 +82,7 @@ pub fn outcome(
     if refused != 0 {
         return refused;
     }
-    let mut s = [0u16; 6443];
+    let mut s = [0u8; cells::STATE];
     let c = run::run(laid, &mut s, steps);
     let n = laid[cells::NODES] as usize;
     hand_rows(&s, entries, n);

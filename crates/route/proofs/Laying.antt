@@ -15,7 +15,7 @@ use Rattle.method.specs.Steps.{steps}
 use Rattle.method.specs.Entries.{Entry, unknown, unreachable, known}
 use Rattle.method.specs.Marks.{unknownMark, unreachableMark, distanceOf}
 use Rattle.network.specs.Layout.{netOf}
-use Rattle.cells.specs.Part.{Part, stateOf}
+use Rattle.cells.specs.Part.{Part, tableSize, stateOf}
 use Rattle.cells.specs.Caches.{Readable}
 use Rattle.entries.specs.Read.{entryOf}
 use Rattle.entries.proofs.Reading.{no-mark}
@@ -27,8 +27,9 @@ use Rattle.route.proofs.Following.{On, nearer, route-here, route-next, 
 
 -- what reading asks for
 module _ (m : ℕ → Part) (i y : ℕ) (q : Asked m i y) where
-  pub readable : (i < 17) × (y < 17) × Readable (m i)
+  pub readable : (1 ≤ i) × (i < tableSize) × (y < tableSize) × Readable (m i)
   readable = (
+    q .node .0,
     omega (arith, q .node, q .accepted .sizes .nodes .1),
     omega (arith, q .target, q .accepted .sizes .nodes .1),
     q .ran .readable i (q .node),
@@ -75,35 +76,54 @@ module _ (m : ℕ → Part) (i y : ℕ) (w : OnWay m i y) where
 
   pub fits : length (route (stateOf m) y i) ≤ 16
   fits =
-      omega (arith, route-few (netOf (w .asked .net)) (w .asked .accepted) (steps (w .asked .bytes)) (stateOf m) (w .asked .ran .state) y i on, w .asked .accepted .sizes .nodes .1)
+      omega (
+        arith,
+        route-few (netOf (w .asked .net)) (w .asked .accepted) (steps (w .asked .bytes)) (stateOf m)
+            (w .asked .ran .state) y i on,
+        w .asked .accepted .sizes .nodes .1,
+      )
 
-  pub filled-answers : (room room′ : List ℕ) (r : ℕ) → 16 ≤ length room → r ≡ 0 + length (route (stateOf m) y i) → room′ ≡ sets room 0 (route (stateOf m) y i)
-      → (Nodes r ≡ answerOf (entryOf (stateOf m i) y) (route (stateOf m) y i)) × (room′ ≡ roomOf (entryOf (stateOf m i) y) (route (stateOf m) y i) room)
+  pub filled-answers : (room room′ : List ℕ) (r : ℕ) → 16 ≤ length room → r ≡ 0 + length (route (stateOf m) y i)
+      → room′ ≡ sets room 0 (route (stateOf m) y i)
+      → (Nodes r ≡ answerOf (entryOf (stateOf m i) y) (route (stateOf m) y i)) × (room′ ≡ roomOf (entryOf (stateOf m i) y)
+      (route (stateOf m) y i) room)
   filled-answers room room′ r wide er e =
       let xs = route (stateOf m) y i in
       let n : 0 + length xs ≡ length xs = omega arith in (
         ap Nodes (er ∙ n) ∙ sym (ap (λ (x : Entry). answerOf x xs) (w .filled)),
-        e ∙ sets-eq xs room 0 (omega (arith, fits)) ∙ ap (λ (k : ℕ). xs ++ drop k room) n ∙ sym (ap (λ (x : Entry). roomOf x xs room) (w .filled)),
+        e ∙ sets-eq xs room 0 (omega (arith, fits)) ∙ ap (λ (k : ℕ). xs ++ drop k room) n
+            ∙ sym (ap (λ (x : Entry). roomOf x xs room) (w .filled)),
       )
 
   -- at the target
-  pub arrives : i ≡ y → (at : ℕ) (room : List ℕ) → (at ≡ at + length (route (stateOf m) y i)) × (room ≡ sets room at (route (stateOf m) y i))
+  pub arrives : i ≡ y → (at : ℕ) (room : List ℕ)
+      → (at ≡ at + length (route (stateOf m) y i)) × (room ≡ sets room at (route (stateOf m) y i))
   arrives z at room =
       let n = route-here (netOf (w .asked .net)) (w .asked .accepted) (steps (w .asked .bytes)) (stateOf m) (w .asked .ran .state) y i z in
       (omega (arith, ap length n), ap (sets room at) (sym n))
 
   -- one hop, to h
   module _ (ne : i ≢ y) (h : ℕ) (eh : h ≡ hopTo (stateOf m) y i) where
-    step : (v : On (netOf (w .asked .net)) (w .asked .accepted) (steps (w .asked .bytes)) (stateOf m) (w .asked .ran .state) y h) × (v .distance < w .distance)
+    step : (v : On (netOf (w .asked .net)) (w .asked .accepted) (steps (w .asked .bytes)) (stateOf m)
+        (w .asked .ran .state) y h) × (v .distance < w .distance)
     unfolding on
     step =
-        subst (λ (k : ℕ). (v : On (netOf (w .asked .net)) (w .asked .accepted) (steps (w .asked .bytes)) (stateOf m) (w .asked .ran .state) y k) × (v .distance < w .distance)) (sym eh)
+        subst (λ (k : ℕ). (v : On (netOf (w .asked .net)) (w .asked .accepted) (steps (w .asked .bytes)) (stateOf m)
+        (w .asked .ran .state) y k) × (v .distance < w .distance)) (sym eh)
         (nearer (netOf (w .asked .net)) (w .asked .accepted) (steps (w .asked .bytes)) (stateOf m) (w .asked .ran .state) y i on ne)
 
     pub onward : OnWay m h y
     onward =
         record {
-          asked = record { net = w .asked .net; bytes = w .asked .bytes; counts = w .asked .counts; accepted = w .asked .accepted; ran = w .asked .ran; node = step .0 .node; target = w .asked .target };
+          asked = record {
+            net = w .asked .net;
+            bytes = w .asked .bytes;
+            counts = w .asked .counts;
+            accepted = w .asked .accepted;
+            ran = w .asked .ran;
+            node = step .0 .node;
+            target = w .asked .target;
+          };
           distance = step .0 .distance;
           hop = step .0 .hop;
           filled = step .0 .filled;
@@ -127,7 +147,11 @@ module _ (m : ℕ → Part) (i y : ℕ) (w : OnWay m i y) where
       pub room-left : at + 1 + length (route (stateOf m) y h) ≤ length (set room at h)
       room-left = omega (arith, ap length route-is, length-set room at h)
 
-      pub written : (r : ℕ) (room′ : List ℕ) → r ≡ at + 1 + length (route (stateOf m) y h) → room′ ≡ sets (set room at h) (at + 1) (route (stateOf m) y h)
+      pub written : (r : ℕ) (room′ : List ℕ) → r ≡ at + 1 + length (route (stateOf m) y h)
+          → room′ ≡ sets (set room at h) (at + 1) (route (stateOf m) y h)
           → (r ≡ at + length (route (stateOf m) y i)) × (room′ ≡ sets room at (route (stateOf m) y i))
-      written r room′ er e =
-          (omega (arith, ap length route-is), e ∙ ap (λ (k : ℕ). sets (set room at h) k (route (stateOf m) y h)) (add-one at) ∙ ap (sets room at) (sym route-is))
+      written r room′ er e = (
+        omega (arith, ap length route-is),
+        e ∙ ap (λ (k : ℕ). sets (set room at h) k (route (stateOf m) y h)) (add-one at)
+            ∙ ap (sets room at) (sym route-is),
+      )

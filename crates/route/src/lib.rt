@@ -10,8 +10,9 @@ ghost use Rattle.route.specs.Asked.{Asked, OnWay, answerOf, roomOf};
 use entries::*;
 
 // From node i on, the nodes on the way to y are written from place `at` on; the next free place. The distance falls at each call.
-pub fn follow(s: &[u16], room: &mut [u8], at: usize, i: usize, y: usize) -> usize
-    requires { ⌜ OnWay (cells (now s)) i y × (at + length (route (stateOf (cells (now s))) y i) ≤ length (now room)) × (length (now s) ≡ stateSize) ⌝ }
+pub fn follow(s: &[u8], room: &mut [u8], at: usize, i: usize, y: usize) -> usize
+    requires { ⌜ OnWay (cells (now s)) i y × (at + length (route (stateOf (cells (now s))) y i) ≤ length (now room))
+        × (length (now s) ≡ stateSize) ⌝ }
     ensures { λ r. ⌜ (r ≡ at + length (route (stateOf (cells (now (s .entry)))) y i))
         × (now (room .exit) ≡ sets (now (room .entry)) at (route (stateOf (cells (now (s .entry)))) y i)) ⌝ }
 {
@@ -31,10 +32,11 @@ pub enum Way {
 }
 
 // The nodes that first hops pass from node i to y, y last, into the room's first places.
-pub fn find_way(s: &[u16], room: &mut [u8], i: usize, y: usize) -> Way
+pub fn find_way(s: &[u8], room: &mut [u8], i: usize, y: usize) -> Way
     requires { ⌜ Asked (cells (now s)) i y × (16 ≤ length (now room)) × (length (now s) ≡ stateSize) ⌝ }
     ensures { λ r. ⌜ (r ≡ answerOf (entryOf (stateOf (cells (now (s .entry))) i) y) (route (stateOf (cells (now (s .entry)))) y i))
-        × (now (room .exit) ≡ roomOf (entryOf (stateOf (cells (now (s .entry))) i) y) (route (stateOf (cells (now (s .entry)))) y i) (now (room .entry))) ⌝ }
+        × (now (room .exit) ≡ roomOf (entryOf (stateOf (cells (now (s .entry))) i) y) (route (stateOf (cells (now (s .entry)))) y i)
+        (now (room .entry))) ⌝ }
 {
     let d = distance(s, i, y);
     if d.is_unknown() {

@@ -8,7 +8,7 @@ use mathlib.Core.List.{List, _∷_}
 use Prim.Native.Nat.{ℕ, suc, _≤_, _<_}
 use native.Mathlib.Omega.{arith}
 use lib.Dec.{ltb, eqb}
-use lib.ListN.{getD}
+use lib.ListN.{length, getD}
 use borrow.Author.Tests.{eqb-true, eqb-false, eq-eqb, ne-eqb}
 use Rattle.method.specs.Network.{IsNode}
 use Rattle.method.specs.Message.{Msg, len, lastLen, item, sentAfter}
@@ -17,16 +17,20 @@ use Rattle.method.specs.Work.{Site, heard, next, turnAt, work}
 use Rattle.method.specs.Steps.{sents, put, handed}
 use Rattle.method.proofs.Again.{turn-held}
 use Rattle.method.proofs.Turns.{Waiting}
-use Rattle.method.proofs.Working.{SiteOk}
+use Rattle.method.proofs.Working.{SiteOk, work-ok}
+use Rattle.method.proofs.Steady.{work-keeps}
+use Rattle.method.proofs.Always.{sources}
+use Rattle.method.proofs.Bounded.{ends-le}
+use Rattle.method.proofs.Tight.{Spread, spread}
 use Rattle.method.proofs.Enough.{work-rests}
 use Rattle.network.specs.Layout.{netOf, Laid}
-use Rattle.cells.specs.Part.{Part, siteOf, stateOf}
+use Rattle.cells.specs.Part.{Part, entryMost, tableSize, sentMost, sentCount, entryCount, siteOf, stateOf}
 use Rattle.cells.specs.Stores.{Stored}
 use Rattle.cells.specs.Caches.{Caches}
 use Rattle.cells.proofs.Stored.{kept}
 use Rattle.cells.proofs.Lists.{sent-length, table-length}
 use Rattle.node.specs.Rules.{least}
-use Rattle.node.specs.Working.{Ready}
+use Rattle.node.specs.Working.{Fits, Ready}
 use Rattle.node.proofs.Limits.{few-entries, sent-fits, last-short}
 use Rattle.node.proofs.Choice.{on-arc}
 use Rattle.run.specs.Resting.{Resting}
@@ -40,33 +44,51 @@ put-state m n i there s e = fun-ext (λ j. go j (eqb j i) refl)
     go j false q = ap siteOf (there j (eqb-false j i q))
 
 module _ (g : List ℕ) (la : Laid g) (m : ℕ → Part) (re : Resting g m) where
-  pub sent-low : (j : ℕ) → IsNode (getD g 0 0) j → m j 1 ≤ 257
-  sent-low j at =
-      omega (arith, sent-fits (netOf g) (la .accepted .sizes) (la .accepted .valid) j at _ (stateOf m j .node) (re .inv j .site .ok), sent-length (m j) (m j 1))
+  sent-fits-at : (j : ℕ) → IsNode (getD g 0 0) j → Fits (stateOf m j .node)
+  sent-fits-at j at = sent-fits (netOf g) (la .accepted .sizes) (la .accepted .valid) j at _ (stateOf m j .node) (re .inv j .site .ok)
+      (re .spread j)
 
-  pub table-low : (j : ℕ) → IsNode (getD g 0 0) j → m j 2 ≤ 16
+  sent-most : (j : ℕ) → IsNode (getD g 0 0) j → length (sents (stateOf m) j) ≤ sentMost
+  sent-most j at = omega (arith, sent-fits-at j at, ends-le (stateOf m j .node .phase))
+
+  pub sent-low : (j : ℕ) → IsNode (getD g 0 0) j → m j sentCount ≤ sentMost
+  sent-low j at = omega (arith, sent-most j at, sent-length (m j) (m j sentCount))
+
+  pub table-low : (j : ℕ) → IsNode (getD g 0 0) j → m j entryCount ≤ entryMost
   table-low j at =
-      omega (arith, few-entries (netOf g) (la .accepted .sizes) (la .accepted .valid) j at _ (stateOf m j .node) (re .inv j .site .ok), table-length (m j) (m j 2))
+      omega (
+        arith,
+        few-entries (netOf g) (la .accepted .sizes) (la .accepted .valid) j at _ (stateOf m j .node) (re .inv j .site .ok),
+        table-length (m j) (m j entryCount),
+      )
 
   module _ (i : ℕ) (at : IsNode (getD g 0 0) i) where
-    pub i-low : i < 17
-    i-low = omega (arith, la .accepted .sizes .nodes .1)
+    pub i-node : (1 ≤ i) × (i < tableSize)
+    i-node = omega (arith, la .accepted .sizes .nodes .1)
 
     -- node i's part has become f, that of a site that works
-    pub ready : (n : ℕ → Part) (f : Part) → Stored m i f n → (s : Site) → siteOf f ≡ s → SiteOk (netOf g) i (sents (stateOf m)) s → s .node .phase ≡ started
-        → Caches g i (sents (stateOf m)) f → Ready g (sents (stateOf m)) n i
-    ready n f st s is ok up caches =
+    pub ready : (n : ℕ → Part) (f : Part) → Stored m i f n → (s : Site) → siteOf f ≡ s → SiteOk (netOf g) i (sents (stateOf m)) s
+        → s .node .phase ≡ started
+        → Spread (netOf g) i (s .node) → Caches g i (sents (stateOf m)) f → Ready g (sents (stateOf m)) n i
+    ready n f st s is ok up spreads caches =
         let e : siteOf (n i) ≡ s = ap siteOf (st .here) ∙ is in
+        let va = la .accepted .valid in
+        let k = work-ok (netOf g) va i (sents (stateOf m)) (λ j. re .inv j .site .ok .good) s ok up in
+        let told = sources (netOf g) va (Spread (netOf g)) (spread (netOf g) va) (stateOf m) (re .inv) (re .spread) in
+        let after = work-keeps (netOf g) va (Spread (netOf g)) (spread (netOf g) va) i (sents (stateOf m))
+        (λ j. re .inv j .site .ok .good) told s ok up spreads in
+        let fits = sent-fits (netOf g) (la .accepted .sizes) va i at _ (work (netOf g) i (sents (stateOf m)) s .node) (k .ok .ok) after in
         record {
           node = at;
           same = λ j ne. ap (λ (p : Part). siteOf p .node .sent) (st .there j ne);
           lists = λ j. re .inv j .site .ok .good;
           fits =
               λ j aj. (
-                sent-fits (netOf g) (la .accepted .sizes) (la .accepted .valid) j aj _ (stateOf m j .node) (re .inv j .site .ok),
+                sent-most j aj,
                 last-short (netOf g) (la .accepted .sizes) (la .accepted .valid) j aj _ (stateOf m j .node) (re .inv j .site .ok),
               );
           site = subst (λ (x : Site). SiteOk (netOf g) i (sents (stateOf m)) x) (sym e) ok;
+          room = subst (λ (x : Site). Fits (work (netOf g) i (sents (stateOf m)) x .node)) (sym e) fits;
           up = ap (λ (x : Site). x .node .phase) e ∙ up;
           caches = subst (λ (p : Part). Caches g i (sents (stateOf m)) p) (sym (st .here)) caches;
         }
@@ -85,13 +107,20 @@ module _ (g : List ℕ) (la : Laid g) (m : ℕ → Part) (re : Resting g m) wher
 
         rested : Waiting (netOf g) i (heard ss s) (next ss s) (s .node) → turnAt (netOf g) i ss to₁ (handed s h) ≡ rests (s .node)
         rested w =
-            let rd : Ready g ss m i = ready m (m i) (kept m i) s refl (re .inv i .site) up (re .caches i i-low) in
+            let rd : Ready g ss m i = ready m (m i) (kept m i) s refl (re .inv i .site) up (re .spread i) (re .caches i i-node) in
             let p = w .choice in
             let head = on-arc g la ss m i rd p (w .chosen, w .near) .least-head in
             let ne : p .head ≢ h = λ q. other (sym head ∙ q) in
             turn-held (netOf g) i (λ k. item (heard ss s k)) (next ss (handed s h)) (to₃ p) (s .node) (w .chosen, w .near)
             ∙ ap (rule₃ (s .node) p)
-            (ap (λ (b : Bool). cond (ltb (s .taken (p .head)) (cond b (suc (s .delivered (p .head))) (s .delivered (p .head)))) (some (sentAfter (s .taken (p .head)) (ss (p .head)))) none) (ne-eqb (p .head) h ne)
+            (ap (λ (b : Bool). cond (ltb (s .taken (p .head)) (cond b (suc (s .delivered (p .head))) (s .delivered (p .head))))
+            (some (sentAfter (s .taken (p .head)) (ss (p .head)))) none) (ne-eqb (p .head) h ne)
             ∙ w .dry)
-            ∙ ap (λ (b : Bool). rests (record { phase = s .node .phase; sent = cond b (s .node .sent) (len (p .sum) ∷ s .node .sent); table = s .node .table; lp = s .node .lp }))
+            ∙ ap (λ (b : Bool). rests
+            (record {
+              phase = s .node .phase;
+              sent = cond b (s .node .sent) (len (p .sum) ∷ s .node .sent);
+              table = s .node .table;
+              lp = s .node .lp;
+            }))
             (eq-eqb (lastLen (s .node .sent)) (p .sum) (w .sent))

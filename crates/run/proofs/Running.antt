@@ -7,11 +7,12 @@ use native.Mathlib.Omega.{arith}
 use native.Mathlib.Numerals.{add-one}
 use lib.ListN.{length, getD, drop}
 use lib.Seq.{drop-cons, drop-length}
-use Rattle.method.specs.Steps.{State, fresh, Step, byteStep, steps, step, runFrom, run, Kind, taken, idle, unknown, Counts, counted, countsFrom, counts}
+use Rattle.method.specs.Steps.{State, fresh, Step, byteStep, steps, step, runFrom, run, Kind, taken, idle, unknown, Counts, counted}
+use Rattle.method.specs.Steps.{countsFrom, counts}
 use Rattle.network.specs.Layout.{netOf, Laid}
 use Rattle.cells.specs.Part.{Part, stateOf}
 use Rattle.run.specs.Resting.{Resting, Did}
-use Rattle.run.proofs.Rested.{table-low, i-low}
+use Rattle.run.proofs.Rested.{table-low, i-node}
 use Rattle.run.specs.declared.Kind.{Kind as CodeKind}
 use Rattle.run.specs.declared.Kind.the-variants.{Taken, Idle, Unknown}
 use Rattle.run.specs.Ran.{kindOf, tallied, Ran}
@@ -33,10 +34,23 @@ plus-counted taken a b = counts-are (plus (counted taken a) b) (plus a (counted 
 plus-counted idle a b = counts-are (plus (counted idle a) b) (plus a (counted idle b)) refl (omega arith) refl
 plus-counted unknown a b = counts-are (plus (counted unknown a) b) (plus a (counted unknown b)) refl refl (omega arith)
 
-pub counted-le : (k : Kind) (a b : Counts) → b ≡ counted k a → (b .taken ≤ a .taken + 1) × (b .idle ≤ a .idle + 1) × (b .unknown ≤ a .unknown + 1)
-counted-le taken a b e = (omega (arith, ap (λ (c : Counts). c .taken) e), omega (arith, ap (λ (c : Counts). c .idle) e), omega (arith, ap (λ (c : Counts). c .unknown) e))
-counted-le idle a b e = (omega (arith, ap (λ (c : Counts). c .taken) e), omega (arith, ap (λ (c : Counts). c .idle) e), omega (arith, ap (λ (c : Counts). c .unknown) e))
-counted-le unknown a b e = (omega (arith, ap (λ (c : Counts). c .taken) e), omega (arith, ap (λ (c : Counts). c .idle) e), omega (arith, ap (λ (c : Counts). c .unknown) e))
+pub counted-le : (k : Kind) (a b : Counts) → b ≡ counted k a
+    → (b .taken ≤ a .taken + 1) × (b .idle ≤ a .idle + 1) × (b .unknown ≤ a .unknown + 1)
+counted-le taken a b e = (
+  omega (arith, ap (λ (c : Counts). c .taken) e),
+  omega (arith, ap (λ (c : Counts). c .idle) e),
+  omega (arith, ap (λ (c : Counts). c .unknown) e),
+)
+counted-le idle a b e = (
+  omega (arith, ap (λ (c : Counts). c .taken) e),
+  omega (arith, ap (λ (c : Counts). c .idle) e),
+  omega (arith, ap (λ (c : Counts). c .unknown) e),
+)
+counted-le unknown a b e = (
+  omega (arith, ap (λ (c : Counts). c .taken) e),
+  omega (arith, ap (λ (c : Counts). c .idle) e),
+  omega (arith, ap (λ (c : Counts). c .unknown) e),
+)
 
 -- k steps are done
 pub record SoFar (g bs : List ℕ) (k : ℕ) (m : ℕ → Part) (c : Counts) : Type 0 where
@@ -69,7 +83,8 @@ one-done g bs k m n c d r lt so did ed =
           ap (λ (x : Counts). plus x (countsFrom (netOf g) (stateOf n) (steps (drop (k + 1) bs)))) ed
           ∙ plus-counted r c (countsFrom (netOf g) (stateOf n) (steps (drop (k + 1) bs)))
           ∙ ap (λ (x : Kind). plus c (counted x (countsFrom (netOf g) (stateOf n) (steps (drop (k + 1) bs))))) (did .kind)
-          ∙ ap (λ (st : State). plus c (counted (step (netOf g) (stateOf m) b .kind) (countsFrom (netOf g) st (steps (drop (k + 1) bs))))) (did .state)
+          ∙ ap (λ (st : State). plus c (counted (step (netOf g) (stateOf m) b .kind) (countsFrom (netOf g) st (steps (drop (k + 1) bs)))))
+          (did .state)
           ∙ ap (λ (l : List Step). plus c (countsFrom (netOf g) (stateOf m) l)) (sym cut)
           ∙ so .counted;
     }
@@ -83,7 +98,10 @@ all-done g bs k m c la e so =
       counted =
           counts-are c (plus c none) (omega arith) (omega arith) (omega arith)
           ∙ sym (ap (λ (x : List ℕ). plus c (countsFrom (netOf g) (stateOf m) (steps x))) l) ∙ so .counted;
-      readable = λ j at. record { marks = so .rest .caches j (i-low g la m (so .rest) j at) .marks; few = table-low g la m (so .rest) j at };
+      readable = λ j at. record {
+        marks = so .rest .caches j (i-node g la m (so .rest) j at) .marks;
+        few = table-low g la m (so .rest) j at;
+      };
     }
 
 -- the code's counts

@@ -13,11 +13,14 @@ use lib.ListN.{length, getD, getElem?}
 use borrow.Author.Tests.{lt-ltb, le-ltb, le-leb, lt-leb, eqb-true, eqb-false}
 use Rattle.method.specs.Network.{IsNode, IsArc}
 use Rattle.method.specs.Message.{Msg, item, oldest}
-use Rattle.method.specs.Steps.{State, sents, Step, deliver, byteStep, Named, node, arc, nothing, names, Kind, unknown, Stepped, carriedOut, step}
+use Rattle.method.specs.Steps.{State, sents, Step, deliver, byteStep, Named, node, arc, nothing, names, Kind, unknown, Stepped, carriedOut}
+use Rattle.method.specs.Steps.{step}
 use Rattle.method.proofs.Oldest.{oldest-grow}
 use Rattle.method.proofs.Runs.{Inv, Onward, step-ok}
+use Rattle.method.proofs.Always.{step-keeps}
+use Rattle.method.proofs.Tight.{Spread, spread}
 use Rattle.network.specs.Layout.{lenAt, arcAt, arcsFrom, netOf, Laid}
-use Rattle.cells.specs.Part.{Part, sumOf, siteOf, stateOf}
+use Rattle.cells.specs.Part.{Part, tableSize, sumOf, siteOf, stateOf}
 use Rattle.cells.specs.Caches.{Caches}
 use Rattle.node.specs.Working.{Waits}
 use Rattle.run.specs.Resting.{Resting, Acted, Did}
@@ -31,7 +34,8 @@ grown-caches g j ss ss′ f grows le c =
       marks = c .marks;
       sums =
           λ h lt. c .sums h lt
-          ∙ ap (λ (t : List Msg). sumOf (lenAt g j h) (item t)) (sym (ap (oldest (siteOf f .taken h)) (grows h .1) ∙ oldest-grow (siteOf f .taken h) (grows h .0) (ss h) (le h)));
+          ∙ ap (λ (t : List Msg). sumOf (lenAt g j h) (item t))
+          (sym (ap (oldest (siteOf f .taken h)) (grows h .1) ∙ oldest-grow (siteOf f .taken h) (grows h .0) (ss h) (le h)));
     }
 
 -- an arc by its number
@@ -54,13 +58,16 @@ arc-in g a (suc k) zero lt =
     inl (ap (λ (x : ℕ). arcAt g x .tail) e, ap (λ (x : ℕ). arcAt g x .head) e, ap (λ (x : ℕ). arcAt g x .len) e)
 arc-in g a (suc k) (suc n) lt =
     let e : suc a + n ≡ a + suc n = omega arith in
-    inr (subst (λ (x : ℕ). IsArc (arcsFrom g (suc a) k) (arcAt g x .tail) (arcAt g x .head) (arcAt g x .len)) e (arc-in g (suc a) k n (omega arith)))
+    inr (subst (λ (x : ℕ). IsArc (arcsFrom g (suc a) k) (arcAt g x .tail) (arcAt g x .head) (arcAt g x .len)) e
+    (arc-in g (suc a) k n (omega arith)))
 
 -- its tail and head are nodes
-pub ends-are-nodes : (g : List ℕ) → Laid g → (k : ℕ) → k < getD g 2 0 → IsNode (getD g 0 0) (getD g (292 + k) 0) × IsNode (getD g 0 0) (getD g (532 + k) 0)
+pub ends-are-nodes : (g : List ℕ) → Laid g → (k : ℕ) → k < getD g 2 0 → IsNode (getD g 0 0) (getD g (292 + k) 0) × IsNode (getD g 0 0)
+    (getD g (532 + k) 0)
 ends-are-nodes g la k lt =
     let e : 0 + k ≡ k = omega arith in
-    let a = subst (λ (x : ℕ). IsArc (netOf g .arcs) (arcAt g x .tail) (arcAt g x .head) (arcAt g x .len)) e (arc-in g 0 (getD g 2 0) k lt) in
+    let a = subst (λ (x : ℕ). IsArc (netOf g .arcs) (arcAt g x .tail) (arcAt g x .head) (arcAt g x .len)) e
+    (arc-in g 0 (getD g 2 0) k lt) in
     (la .accepted .valid .tails _ _ _ a, la .accepted .valid .heads _ _ _ a)
 
 -- what a byte names
@@ -84,10 +91,15 @@ module _ (g : List ℕ) (b : ℕ) where
 
 module _ (g : List ℕ) (la : Laid g) (m : ℕ → Part) (re : Resting g m) (b : Step) where
   -- all parts are at rest after an act of node i
-  pub acted-did : (o : Named) → names (netOf g) b ≡ o → (i : ℕ) (n : ℕ → Part) (k : Kind) → Acted g m i n k (carriedOut (netOf g) (stateOf m) o)
+  pub acted-did : (o : Named) → names (netOf g) b ≡ o → (i : ℕ) (n : ℕ → Part) (k : Kind)
+      → Acted g m i n k (carriedOut (netOf g) (stateOf m) o)
       → Did g n k (step (netOf g) (stateOf m) b)
   unfolding step
-  acted-did o eo i n k a₀ = record { kind = a .kind; state = a .state; rest = record { inv = inv; caches = λ j lt. caches j lt (eqb j i) refl; waits = λ j. waits j (eqb j i) refl } }
+  acted-did o eo i n k a₀ = record {
+    kind = a .kind;
+    state = a .state;
+    rest = record { inv = inv; spread = spreads; caches = λ j lt. caches j lt (eqb j i) refl; waits = λ j. waits j (eqb j i) refl };
+  }
     where
       w : Stepped
       w = carriedOut (netOf g) (stateOf m) (names (netOf g) b)
@@ -98,13 +110,20 @@ module _ (g : List ℕ) (la : Laid g) (m : ℕ → Part) (re : Resting g m) (b :
       inv : Inv (netOf g) (stateOf n)
       inv = subst (λ (st : State). Inv (netOf g) st) (sym (a .state)) (step-ok (netOf g) (la .accepted .valid) (stateOf m) (re .inv) b .0)
 
+      spreads : (j : ℕ) → Spread (netOf g) j (stateOf n j .node)
+      spreads j =
+          subst (λ (st : State). Spread (netOf g) j (st j .node)) (sym (a .state))
+          (step-keeps (netOf g) (la .accepted .valid) (Spread (netOf g)) (spread (netOf g) (la .accepted .valid)) (stateOf m) (re .inv)
+          (re .spread) b j)
+
       onward : Onward (stateOf m) (stateOf n)
-      onward = subst (λ (st : State). Onward (stateOf m) st) (sym (a .state)) (step-ok (netOf g) (la .accepted .valid) (stateOf m) (re .inv) b .1)
+      onward = subst (λ (st : State). Onward (stateOf m) st) (sym (a .state))
+          (step-ok (netOf g) (la .accepted .valid) (stateOf m) (re .inv) b .1)
 
       grows : (h : ℕ) → (e : List Msg) × (sents (stateOf n) h ≡ e ++ sents (stateOf m) h)
       grows h = onward h .node .moreSent
 
-      caches : (j : ℕ) → j < 17 → (t : Bool) → eqb j i ≡ t → Caches g j (sents (stateOf n)) (n j)
+      caches : (j : ℕ) → (1 ≤ j) × (j < tableSize) → (t : Bool) → eqb j i ≡ t → Caches g j (sents (stateOf n)) (n j)
       caches j lt true e =
           subst (λ (x : ℕ). Caches g x (sents (stateOf n)) (n x)) (sym (eqb-true j i e))
           (grown-caches g i (sents (stateOf m)) (sents (stateOf n)) (n i) grows (a .taken-le) (a .caches))

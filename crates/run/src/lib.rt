@@ -21,7 +21,7 @@ pub enum Kind {
 }
 
 // Node i is to start.
-pub fn start(net: &[u8], s: &mut [u16], i: usize) -> Kind
+pub fn start(net: &[u8], s: &mut [u8], i: usize) -> Kind
     requires { ⌜ Laid (now net) × Resting (now net) (cells (now s)) × IsNode (getD (now net) 0 0) i × (length (now s) ≡ stateSize) ⌝ }
     ensures { λ r. ⌜ Acted (now (net .entry)) (cells (now (s .entry))) i (cells (now (s .exit))) (kindOf r)
         (starting (stateOf (cells (now (s .entry))) i .node .phase) (netOf (now (net .entry))) (stateOf (cells (now (s .entry)))) i) ⌝ }
@@ -36,8 +36,9 @@ pub fn start(net: &[u8], s: &mut [u16], i: usize) -> Kind
 
 // The arc from i to h is to hand over its oldest undelivered message. A node chooses again the arc that it waits for: another, and it waits
 // still; or this one, and it works on from there.
-pub fn deliver(net: &[u8], s: &mut [u16], i: usize, h: usize) -> Kind
-    requires { ⌜ Laid (now net) × Resting (now net) (cells (now s)) × IsNode (getD (now net) 0 0) i × IsNode (getD (now net) 0 0) h × (length (now s) ≡ stateSize) ⌝ }
+pub fn deliver(net: &[u8], s: &mut [u8], i: usize, h: usize) -> Kind
+    requires { ⌜ Laid (now net) × Resting (now net) (cells (now s)) × IsNode (getD (now net) 0 0) i × IsNode (getD (now net) 0 0) h
+        × (length (now s) ≡ stateSize) ⌝ }
     ensures { λ r. ⌜ Acted (now (net .entry)) (cells (now (s .entry))) i (cells (now (s .exit))) (kindOf r)
         (delivering (netOf (now (net .entry))) (stateOf (cells (now (s .entry)))) i h) ⌝ }
 {
@@ -58,9 +59,10 @@ pub fn deliver(net: &[u8], s: &mut [u16], i: usize, h: usize) -> Kind
 }
 
 // A step byte: a start or a delivery; then unknown, idle or taken.
-pub fn step(net: &[u8], s: &mut [u16], b: u8) -> Kind
+pub fn step(net: &[u8], s: &mut [u8], b: u8) -> Kind
     requires { ⌜ Laid (now net) × Resting (now net) (cells (now s)) × (length (now s) ≡ stateSize) ⌝ }
-    ensures { λ r. ⌜ Did (now (net .entry)) (cells (now (s .exit))) (kindOf r) (step (netOf (now (net .entry))) (stateOf (cells (now (s .entry)))) (byteStep b)) ⌝ }
+    ensures { λ r. ⌜ Did (now (net .entry)) (cells (now (s .exit))) (kindOf r)
+        (step (netOf (now (net .entry))) (stateOf (cells (now (s .entry)))) (byteStep b)) ⌝ }
 {
     match b {
         0..=15 => {
@@ -113,7 +115,7 @@ pub fn tally(c: Counts, k: Kind) -> Counts
 }
 
 // The run over the whole step list, from the beginning.
-pub fn run(net: &[u8], s: &mut [u16], steps: &[u8]) -> Counts
+pub fn run(net: &[u8], s: &mut [u8], steps: &[u8]) -> Counts
     requires { ⌜ Laid (now net) × (length (now s) ≡ stateSize) ⌝ }
     ensures { λ r. ⌜ Ran (now (net .entry)) (now (steps .entry)) (cells (now (s .exit))) (tallied (r .taken) (r .idle) (r .unknown)) ⌝ }
 {

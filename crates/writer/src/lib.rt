@@ -12,7 +12,7 @@ ghost use Rattle.writer.specs.Lent.{rows, lentFile};
 ghost use Rattle.writer.specs.Code.{joined, flushed, Pending, recordsBits, finished};
 
 // A record's number in a type that holds what is made of it.
-fn wide(x: u16) -> u32
+fn wide(x: u8) -> u32
     ensures { λ r. ⌜ r ≡ x ⌝ }
 {
     x as u32
@@ -57,15 +57,13 @@ fn flush(room: &mut [u8], k: usize, n: usize, x: u32)
 }
 
 // Stores the first count records behind the header, and gives the bits of the byte begun.
-fn put_records(
-    room: &mut [u8],
-    targets: &[u16],
-    distances: &[u16],
-    hops: &[u16],
-    count: usize,
-) -> u32
-    requires { ⌜ (16 + 13 * count ≤ 8 * length (now room)) × (count ≤ 4294967295) × (count ≤ length (now targets)) × (count ≤ length (now distances)) × (count ≤ length (now hops)) ⌝ }
-    ensures { λ r. ⌜ (r < 256) × Pending (now (room .entry)) (now (room .exit)) ((16 + 13 * count) / 8) ((16 + 13 * count) % 8) r (bitsOf (take 2 (now (room .entry))) ++ recordsBits one (rows (now (targets .entry)) (now (distances .entry)) (now (hops .entry)) count)) ⌝ }
+fn put_records(room: &mut [u8], targets: &[u8], distances: &[u8], hops: &[u8], count: usize) -> u32
+    requires { ⌜ (16 + 13 * count ≤ 8 * length (now room)) × (count ≤ 4294967295) × (count ≤ length (now targets))
+        × (count ≤ length (now distances)) × (count ≤ length (now hops)) ⌝ }
+    ensures { λ r. ⌜ (r < 256)
+        × Pending (now (room .entry)) (now (room .exit)) ((16 + 13 * count) / 8) ((16 + 13 * count) % 8) r
+        (bitsOf (take 2 (now (room .entry))) ++ recordsBits one
+        (rows (now (targets .entry)) (now (distances .entry)) (now (hops .entry)) count)) ⌝ }
 {
     let mut k: usize = 0;
     let mut before: u32 = 0;
@@ -116,14 +114,18 @@ pub fn write_file(
     own: u32,
     n: u32,
     lmax: u32,
-    targets: &[u16],
-    distances: &[u16],
-    hops: &[u16],
+    targets: &[u8],
+    distances: &[u8],
+    hops: &[u8],
     count: u32,
     stopped: bool,
     room: &mut [u8],
 ) -> Outcome
-    ensures { λ r. ⌜ (r ≡ outcome (lentFile (headerOf own n lmax) (now (targets .entry)) (now (distances .entry)) (now (hops .entry)) count stopped) (now (room .entry))) × (now (room .exit) ≡ roomAfter (lentFile (headerOf own n lmax) (now (targets .entry)) (now (distances .entry)) (now (hops .entry)) count stopped) (now (room .entry))) ⌝ }
+    ensures { λ r. ⌜ (r ≡ outcome
+        (lentFile (headerOf own n lmax) (now (targets .entry)) (now (distances .entry)) (now (hops .entry)) count stopped)
+        (now (room .entry))) × (now (room .exit) ≡ roomAfter
+        (lentFile (headerOf own n lmax) (now (targets .entry)) (now (distances .entry)) (now (hops .entry)) count stopped)
+        (now (room .entry))) ⌝ }
 {
     let many = least(
         least(count as usize, targets.len()),

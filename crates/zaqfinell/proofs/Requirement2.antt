@@ -14,9 +14,10 @@ use Rattle.method.specs.If.{if_then_else_}
 use Rattle.method.specs.Network.{Arc, Net, house, IsNode}
 use Rattle.method.specs.Rules.{Filled, Phase, unstarted, started, stopped}
 use Rattle.method.specs.Steps.{State, Step, steps, byteStep, counts, counted}
-use Rattle.method.specs.Entries.{Entry, unknown, entry, unreachable, known, find, said, phase, table, Stopped, hasStopped}
+use Rattle.method.specs.Entries.{Entry, unknown, nodes, entry, unreachable, known, find, said, phase, table, Stopped, hasStopped}
 use Rattle.method.specs.Laws.{Leads, arrived, hop}
 use Rattle.method.proofs.Proved.{laws as method-laws}
+use Rattle.method.proofs.Always.{run-lawful}
 use Rattle.method.proofs.Said.{unreachable-no-chain}
 use Rattle.bits.proofs.Bytes.{length-packed}
 use Rattle.network.specs.Refusal.{when, _else_, outside}
@@ -40,7 +41,8 @@ use Rattle.route.proofs.Laws.{laws as route-laws}
 use Rattle.calls.proofs.Ten.{never-ten}
 use Rattle.calls.proofs.Asked.{run-accepted, Asked, asked}
 use Rattle.calls.specs.Answers.{readAnswer}
-use Rattle.calls.specs.Calls.{nodesOf, stateAfter, entryAfter, countsOf, stoppedOf, tenRefusal, runRefusal, entryRefusal, entryAnswer, passed, nodesPassed, routeRoom, isUnstarted, fileAfter, writeRefusal, writeRoom}
+use Rattle.calls.specs.Calls.{nodesOf, stateAfter, entryAfter, countsOf, stoppedOf, tenRefusal, runRefusal, entryRefusal, entryAnswer}
+use Rattle.calls.specs.Calls.{passed, nodesPassed, routeRoom, isUnstarted, fileAfter, writeRefusal, writeRoom}
 use Rattle.zaqfinell.specs.Requirement2.{IsSo, Followed, RightTables, Requirement2}
 use Rattle.zaqfinell.proofs.Small.{early-bytes, early-list}
 use Rattle.zaqfinell.proofs.Ending.{all-or-one, ends}
@@ -57,7 +59,8 @@ all-stopped : (st : State) (k : ℕ) → stoppedTo st k ≡ k → (j : ℕ) → 
 all-stopped st zero e j at = absurd (omega arith)
 all-stopped st (suc k) e j at = go (isStopped (st (suc k))) refl (last-or-before k j at) (λ f. all-stopped st k f j)
   where
-    go : (t : Bool) → isStopped (st (suc k)) ≡ t → (j ≡ suc k) ⊎ IsNode k j → (stoppedTo st k ≡ k → IsNode k j → isStopped (st j) ≡ true) → isStopped (st j) ≡ true
+    go : (t : Bool) → isStopped (st (suc k)) ≡ t → (j ≡ suc k) ⊎ IsNode k j → (stoppedTo st k ≡ k → IsNode k j → isStopped (st j) ≡ true)
+        → isStopped (st j) ≡ true
     go true is (inl f) rec = ap (λ (m : ℕ). isStopped (st m)) f ∙ is
     go true is (inr there) rec =
         let sum : 1 + stoppedTo st k ≡ suc k = ap (λ (t : Bool). (if t then 1 else 0) + stoppedTo st k) (sym is) ∙ e in
@@ -97,7 +100,8 @@ module _ (net : Checked) (sound : OfMethod net) (not-13 : net .refused ≢ 13) w
 
       go : (x : Entry) → entryAfter net bs i y ≡ x → IsSo (net .meant) i y x
       go unknown is = tt
-      go unreachable is = unreachable-no-chain (net .meant) (a .accepted .valid) (steps bs) i y is .1
+      go unreachable is = unreachable-no-chain (net .meant) (a .accepted .valid) (nodes (net .meant) (steps bs))
+          (run-lawful (net .meant) (a .accepted .valid) (steps bs)) i y is .1
       go (known d h) is = method-laws (net .meant) .a-filled-is-right (a .accepted .valid) (steps bs) i y d h is
 
   -- an entry of a node that has stopped is not unknown
@@ -111,7 +115,8 @@ module _ (net : Checked) (sound : OfMethod net) (not-13 : net .refused ≢ 13) w
       go none z = let w : _≡_ {A = ℕ} 0 1 = cc in omega arith
       go (some f) z = let w : _≡_ {A = ℕ} 0 1 = cc in omega arith
 
-  filled : (bs : List ℕ) → stoppedOf net bs ≡ nodesOf net → (i y : ℕ) → entryRefusal net bs i y ≡ 0 → Stopped (net .meant) (steps bs) i × (entryAfter net bs i y ≢ unknown)
+  filled : (bs : List ℕ) → stoppedOf net bs ≡ nodesOf net → (i y : ℕ) → entryRefusal net bs i y ≡ 0
+      → Stopped (net .meant) (steps bs) i × (entryAfter net bs i y ≢ unknown)
   filled bs all i y e =
       let stop = at-end _ (all-stopped (stateAfter net bs) (nodesOf net) all i (asked net sound bs i y e .node)) in
       (stop, not-unknown bs i y stop)
@@ -122,7 +127,8 @@ module _ (net : Checked) (sound : OfMethod net) (not-13 : net .refused ≢ 13) w
   progress bs e lt =
       let a = run-accepted net sound bs e in
       let j = one-working (stateAfter net bs) (nodesOf net) lt in
-      let s = method-laws (net .meant) .e-some-step (a .sizes) (a .valid) (a .positive) (steps bs) (j .0) (j .1) (λ st. true≢false (sym (ap hasStopped st) ∙ j .2)) in (
+      let s = method-laws (net .meant) .e-some-step (a .sizes) (a .valid) (a .positive) (steps bs) (j .0) (j .1)
+      (λ st. true≢false (sym (ap hasStopped st) ∙ j .2)) in (
         s .0,
         s .1,
         ap (λ (l : List Step). counts (net .meant) l .taken) (map-append byteStep bs (s .0 ∷ []))
@@ -139,7 +145,9 @@ module _ (net : Checked) (sound : OfMethod net) (not-13 : net .refused ≢ 13) w
       let a = asked net sound bs i y e in
       let r = route-laws (net .meant) .arrives (a .accepted) (steps bs) i y d h (a .node) is in
       let here = are-route bs i y d h is in
-      let onward : i ≢ y → Known (net .meant) (steps bs) h y = λ ne. hop-known (net .meant) (steps bs) i y d h ne is (method-laws (net .meant) .f-hops-lead (a .accepted .valid) (a .accepted .positive) (steps bs) i y d h is) in
+      let onward : i ≢ y → Known (net .meant) (steps bs) h y =
+      λ ne. hop-known (net .meant) (steps bs) i y d h ne is
+      (method-laws (net .meant) .f-hops-lead (a .accepted .valid) (a .accepted .positive) (steps bs) i y d h is) in
       record {
         here = λ q. here ∙ r .here q;
         next = λ ne. here ∙ r .next ne ∙ ap (λ (xs : List ℕ). h ∷ xs) (sym (are-route bs h y (onward ne .0) (onward ne .1) (onward ne .2)));
@@ -182,10 +190,12 @@ module _ (net : Checked) (sound : OfMethod net) (not-13 : net .refused ≢ 13) w
       by-node z true out e = omega arith
       by-node z false out e =
           by-room z out (isUnstarted (phase (net .meant) (steps bs) i)) refl (ltb 27 long) refl
-          (sym (ap (λ (r : ℕ). r else when (isUnstarted (phase (net .meant) (steps bs) i)) 12 else when (ltb 27 long) 13) (never-ten net bs sound z)) ∙ e)
+          (sym (ap (λ (r : ℕ). r else when (isUnstarted (phase (net .meant) (steps bs) i)) 12 else when (ltb 27 long) 13)
+          (never-ten net bs sound z)) ∙ e)
 
       by-net : (r : ℕ) → net .refused ≡ r
-          → (r else when (outside (nodesOf net) i) 11 else tenRefusal net bs else when (isUnstarted (phase (net .meant) (steps bs) i)) 12 else when (ltb 27 long) 13) ≢ 13
+          → (r else when (outside (nodesOf net) i) 11 else tenRefusal net bs else when (isUnstarted (phase (net .meant) (steps bs) i)) 12
+          else when (ltb 27 long) 13) ≢ 13
       by-net zero z e = by-node z (outside (nodesOf net) i) refl e
       by-net (suc r) z e = not-13 (z ∙ e)
 
@@ -215,7 +225,8 @@ module _ (net : Checked) (sound : OfMethod net) (not-13 : net .refused ≢ 13) w
 
 -- the bytes of an arc list, in the room
 both-entries : (n lmax : ℕ) (ar : List Arc) (room : List ℕ) → listRefusal n lmax ar ≡ 0
-    → (refusal (take (size (length ar)) (packRoom (fromList n lmax ar) room)) ≡ 0) × (network (take (size (length ar)) (packRoom (fromList n lmax ar) room)) ≡ house n lmax ar)
+    → (refusal (take (size (length ar)) (packRoom (fromList n lmax ar) room)) ≡ 0) × (network
+    (take (size (length ar)) (packRoom (fromList n lmax ar) room)) ≡ house n lmax ar)
 both-entries n lmax ar room e =
     let whole = length-packed (size (length ar)) (netBits n lmax ar) in
     let is = ap (take (size (length ar))) (written (listRefusal n lmax ar) room (begins (bytesOf n lmax ar) room) e)

@@ -1,10 +1,14 @@
 -- `get`: all index arithmetic of loads.
+use Rattle.cells.specs.Part.{partSize}
 use Rattle.cells.proofs.Stored.{cell-is}
-use Prim.Native.Nat.{_+_, _*_}
+use Prim.Native.Nat.{_+_, _-_, _*_}
 use native.Mathlib.Omega.{arith}
 use borrow.Author.Needs.{needs}
 use Rattle.cells.proofs.get.Statement.{statement}
 use Rattle.cells.proofs.get.Tie as tie
+
+sub-result : tie.Need-sub-result
+sub-result c = search needs
 
 mul-result : tie.Need-mul-result
 mul-result c = search needs
@@ -12,23 +16,22 @@ mul-result c = search needs
 add-result : tie.Need-add-result
 add-result c = search needs
 
-mul-result-2 : tie.Need-mul-result-2
-mul-result-2 c = search needs
-
 shared-slice-read-result : tie.Need-shared-slice-read-result
 shared-slice-read-result c = search needs
 
 cast-result : tie.Need-cast-result
 cast-result c =
     let a = c .before .args in
-    omega (arith, (c .shared-slice-known) .given (a .i * 379 + a .o))
+    omega (arith, (c .shared-slice-known) .given ((a .i - 1) * partSize + a .o))
 
 returns : tie.Need-returns
 returns c =
-    let a = c .before .args in
-    (cell-is (a .s .now) (a .i) (a .o) (omega arith), omega (arith, (c .shared-slice-known) .given (a .i * 379 + a .o)))
+    let a = c .before .args in (
+      cell-is (a .s .now) (a .i) (a .o) (omega arith) (omega arith),
+      omega (arith, (c .shared-slice-known) .given ((a .i - 1) * partSize + a .o)),
+    )
 
 pub get-spec : {M : Type 1} → statement M
 get-spec =
     tie.close
-    (tie.spec mul-result add-result mul-result-2 shared-slice-read-result cast-result returns)
+    (tie.spec sub-result mul-result add-result shared-slice-read-result cast-result returns)

@@ -23,7 +23,7 @@ get-requires-2 : tie.Need-get-requires-2
 get-requires-2 c κs =
     let a = c .before .before .before .args in
     let p = c .before .before .before .pre in
-    (p .0, omega (arith, (c .before .get) .ensures .0, p .2 .marks (a .y) (p .1) .0, p .2 .few), p .3)
+    (p .0, p .1, omega (arith, (c .before .get) .ensures .0, p .3 .marks (a .y) (p .2) .0, p .3 .few), p .4)
 
 cast-t10 : tie.Need-cast-t10
 cast-t10 c =
@@ -35,7 +35,8 @@ returns c =
     let p = c .before .before .before .before .pre in
     let get = c .before .before .get in
     let get2 = c .get2 in
-    filled-distance (cells (a .s .now) (a .i)) (a .y) (p .1) (p .2 .marks) (get .result) (get .ensures .0) ((c .before .if1) .taken) (get2 .result)
+    filled-distance (cells (a .s .now) (a .i)) (a .y) (p .2) (p .3 .marks) (get .result) (get .ensures .0) ((c .before .if1) .taken)
+    (get2 .result)
     (get2 .ensures .0)
 
 has-stopped-requires : tie.Need-has-stopped-requires
@@ -47,7 +48,8 @@ returns-2 c =
     let p = c .before .before .before .before .before .pre in
     let get = c .before .before .before .get in
     let if1 = c .before .before .if1 in
-    no-distance (cells (a .s .now) (a .i)) (a .y) (p .1) (p .2 .marks) (get .result) (get .ensures .0) (if1 .left) _ (sym ((c .if2) .taken) ∙
+    no-distance (cells (a .s .now) (a .i)) (a .y) (p .2) (p .3 .marks) (get .result) (get .ensures .0) (if1 .left) _
+    (sym ((c .if2) .taken) ∙
     (c .before .has-stopped) .ensures)
 
 returns-3 : tie.Need-returns-3
@@ -56,7 +58,7 @@ returns-3 c =
     let p = c .before .before .before .before .before .pre in
     let get = c .before .before .before .get in
     let if1 = c .before .before .if1 in
-    no-distance (cells (a .s .now) (a .i)) (a .y) (p .1) (p .2 .marks) (get .result) (get .ensures .0) (if1 .left) _ (sym ((c .if2) .left) ∙
+    no-distance (cells (a .s .now) (a .i)) (a .y) (p .2) (p .3 .marks) (get .result) (get .ensures .0) (if1 .left) _ (sym ((c .if2) .left) ∙
     (c .before .has-stopped) .ensures)
 
 pub distance-spec : {M : Type 1} → statement M

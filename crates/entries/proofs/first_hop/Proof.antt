@@ -17,7 +17,7 @@ returns c =
     let a = c .before .before .before .args in
     let p = c .before .before .before .pre in
     let get = c .before .get in
-    no-hop (cells (a .s .now) (a .i)) (a .y) (p .1) (p .2 .marks) (get .result) (get .ensures .0) ((c .if1) .taken)
+    no-hop (cells (a .s .now) (a .i)) (a .y) (p .2) (p .3 .marks) (get .result) (get .ensures .0) ((c .if1) .taken)
 
 sub-get : tie.Need-sub-get
 sub-get c = search needs
@@ -29,7 +29,7 @@ get-requires-2 : tie.Need-get-requires-2
 get-requires-2 c κs =
     let a = c .before .before .before .args in
     let p = c .before .before .before .pre in
-    (p .0, omega (arith, (c .before .get) .ensures .0, p .2 .marks (a .y) (p .1) .0, p .2 .few), p .3)
+    (p .0, p .1, omega (arith, (c .before .get) .ensures .0, p .3 .marks (a .y) (p .2) .0, p .3 .few), p .4)
 
 returns-2 : tie.Need-returns-2
 returns-2 c =
@@ -37,7 +37,8 @@ returns-2 c =
     let p = c .before .before .before .before .pre in
     let get = c .before .before .get in
     let get2 = c .get2 in
-    filled-hop (cells (a .s .now) (a .i)) (a .y) (p .1) (p .2 .marks) (get .result) (get .ensures .0) ((c .before .if1) .left) (get2 .result)
+    filled-hop (cells (a .s .now) (a .i)) (a .y) (p .2) (p .3 .marks) (get .result) (get .ensures .0) ((c .before .if1) .left)
+    (get2 .result)
     (get2 .ensures .0)
 
 pub first-hop-spec : {M : Type 1} → statement M

@@ -1,5 +1,6 @@
 -- `put_file`: the entries behind the first, lent in place.
-use Prim.Native.Nat.{_+_, _*_}
+use Prim.Native.Nat.{_+_, _-_, _*_}
+use Rattle.cells.specs.Part.{targetsAt, distancesAt, hopsAt, partSize}
 use Rattle.file.proofs.Held.{fifteen, lent-file, same-written}
 use native.Mathlib.Omega.{arith}
 use borrow.Author.Needs.{needs}
@@ -15,6 +16,9 @@ sub-records c = search needs
 has-stopped-requires : tie.Need-has-stopped-requires
 has-stopped-requires c κs = search needs
 
+sub-first : tie.Need-sub-first
+sub-first c = search needs
+
 mul-first : tie.Need-mul-first
 mul-first c = search needs
 
@@ -29,9 +33,6 @@ add-targets-2 c = search needs
 
 add-targets-3 : tie.Need-add-targets-3
 add-targets-3 c = search needs
-
-mul-targets : tie.Need-mul-targets
-mul-targets c = search needs
 
 sub-targets : tie.Need-sub-targets
 sub-targets c = search needs
@@ -51,9 +52,6 @@ add-distances-2 c = search needs
 add-distances-3 : tie.Need-add-distances-3
 add-distances-3 c = search needs
 
-mul-distances : tie.Need-mul-distances
-mul-distances c = search needs
-
 sub-distances : tie.Need-sub-distances
 sub-distances c = search needs
 
@@ -71,9 +69,6 @@ add-hops-2 c = search needs
 
 add-hops-3 : tie.Need-add-hops-3
 add-hops-3 c = search needs
-
-mul-hops : tie.Need-mul-hops
-mul-hops c = search needs
 
 sub-hops : tie.Need-sub-hops
 sub-hops c = search needs
@@ -113,7 +108,10 @@ returns c =
     let a = c .before .before .before .before .before .before .before .before .before .before .before .before .before .before .args in
     let p = c .before .before .before .before .before .before .before .before .before .before .before .before .before .before .pre in
     let get = c .before .before .before .before .before .before .before .before .before .before .get in
-    let is = lent-file (a .s .now) (a .i) (omega (arith, p .1, p .0 .accepted .sizes .nodes)) (p .4) (a .net .now) _ _ _ (fifteen (a .i * 379 + 1 + 74)) (fifteen (a .i * 379 + 1 + 90)) (fifteen (a .i * 379 + 1 + 106)) (get .result) (get .ensures .0) (omega (arith, get .ensures .0, p .3)) _ (c .before .before .before .before .before .before .before .before .before .has-stopped .ensures) in
+    let is = lent-file (a .s .now) (a .i) (p .1 .0) (omega (arith, p .1, p .0 .accepted .sizes .nodes)) (p .4) (a .net .now) _ _ _
+    (fifteen ((a .i - 1) * partSize + 1 + targetsAt)) (fifteen ((a .i - 1) * partSize + 1 + distancesAt))
+    (fifteen ((a .i - 1) * partSize + 1 + hopsAt)) (get .result) (get .ensures .0) (omega (arith, get .ensures .0, p .3)) _
+    (c .before .before .before .before .before .before .before .before .before .has-stopped .ensures) in
     same-written _ _ (a .room .now) _ _ is (c .before .before .write-file .ensures)
 
 pub put-file-spec : {M : Type 1} → statement M
@@ -123,26 +121,24 @@ put-file-spec =
     get-requires
     sub-records
     has-stopped-requires
+    sub-first
     mul-first
     add-first
     add-targets
     add-targets-2
     add-targets-3
-    mul-targets
     sub-targets
     part-targets-start
     part-targets-end
     add-distances
     add-distances-2
     add-distances-3
-    mul-distances
     sub-distances
     part-distances-start
     part-distances-end
     add-hops
     add-hops-2
     add-hops-3
-    mul-hops
     sub-hops
     part-hops-start
     part-hops-end

@@ -1,7 +1,7 @@
 -- `choose`: head by head the least so far of each half, then the lesser of both.
 use Rattle.node.proofs.Halves.{arcTo, after, least-suc, after-suc, halves, lesser-is}
 use Rattle.node.specs.Rules.{least}
-use Rattle.cells.specs.Part.{Part, cells}
+use Rattle.cells.specs.Part.{Part, sumsAt, cells}
 use mathlib.Core.Path.{_≡_, _∙_, ap, refl}
 use Prim.Native.Nat.{ℕ, _+_, _-_, _≤_}
 use borrow.Author.Needs.{needs}
@@ -60,10 +60,18 @@ loop-again c =
     let y = c .before .before .get2 in
     let f : Part = cells (args .s .now) (args .i) in
     let k = l .h + 1 in
-    let e : 40 + 8 + k ≡ 40 + (8 + k) = omega arith in
-    let p = lesser-is (least f (l .h)) (arcTo f k) (least f k) (l .a .sum) (l .a .head) (x .result) k (l .inv .1) (l .inv .2) (x .ensures .0) refl (least-suc f (l .h)) in
-    let q = lesser-is (after f 8 (l .h)) (arcTo f (8 + k)) (after f 8 k) (l .b .sum) (l .b .head) (y .result) (8 + k) (l .inv .3) (l .inv .4) (y .ensures .0 ∙ ap f e) refl (after-suc f 8 (l .h)) in
-    (omega arith, c .before .lesser .ensures .0 ∙ p .0, c .before .lesser .ensures .1 ∙ p .1, c .lesser2 .ensures .0 ∙ q .0, c .lesser2 .ensures .1 ∙ q .1)
+    let e : sumsAt + 8 + k ≡ sumsAt + (8 + k) = omega arith in
+    let p = lesser-is (least f (l .h)) (arcTo f k) (least f k) (l .a .sum) (l .a .head) (x .result) k (l .inv .1) (l .inv .2)
+    (x .ensures .0) refl (least-suc f (l .h)) in
+    let q = lesser-is (after f 8 (l .h)) (arcTo f (8 + k)) (after f 8 k) (l .b .sum) (l .b .head) (y .result) (8 + k) (l .inv .3)
+    (l .inv .4) (y .ensures .0 ∙ ap f e) refl (after-suc f 8 (l .h)) in (
+      omega arith,
+      c .before .lesser .ensures .0 ∙ p .0,
+      c .before .lesser .ensures .1 ∙ p .1,
+      c .lesser2 .ensures .0
+          ∙ q .0,
+      c .lesser2 .ensures .1 ∙ q .1,
+    )
 
 lesser-requires-3 : tie.Need-lesser-requires-3 Inv-loop μ-loop
 lesser-requires-3 c κs = search needs

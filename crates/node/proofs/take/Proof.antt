@@ -1,5 +1,5 @@
 -- `take`: waiting, or one message.
-use Rattle.node.proofs.Coded.{takes-nothing, takes-one, room-after, next-is}
+use Rattle.node.proofs.Coded.{takes-nothing, takes-one, room-after, rises-after, next-is}
 use Rattle.cells.specs.Part.{cells}
 use native.Mathlib.Omega.{arith}
 use borrow.Author.Needs.{needs}
@@ -11,32 +11,32 @@ add-get c = search needs
 
 get-requires : tie.Need-get-requires
 get-requires c κs =
-    let p = c .before .before .before .pre in
-    (p .0 .low, omega (arith, p .0 .head), p .2)
+    let p = c .before .before .pre in
+    (p .0 .own .0, p .0 .own .1, omega (arith, p .0 .head .1), p .1)
 
 add-get-2 : tie.Need-add-get-2
 add-get-2 c = search needs
 
 get-requires-2 : tie.Need-get-requires-2
 get-requires-2 c κs =
-    let p = c .before .before .before .before .before .pre in
-    (p .0 .low, omega (arith, p .0 .head), p .2)
+    let p = c .before .before .before .before .pre in
+    (p .0 .own .0, p .0 .own .1, omega (arith, p .0 .head .1), p .1)
 
 wait-requires : tie.Need-wait-requires
 wait-requires c κs =
-    let p = c .before .before .before .before .before .before .before .before .pre in
-    (p .0 .low, p .0 .short, p .0 .head, p .0 .sent, p .2)
+    let p = c .before .before .before .before .before .before .before .pre in
+    (p .0 .own .0, p .0 .own .1, p .0 .rises, p .0 .head .1, p .0 .sent, p .1)
 
 same-length : tie.Need-same-length
 same-length c = search needs
 
 returns : tie.Need-returns
 returns c =
-    let a = c .before .before .before .before .before .before .before .before .before .before .before .args in
+    let a = c .before .before .before .before .before .before .before .before .before .before .args in
     let get = c .before .before .before .before .before .before .before .get in
     let get2 = c .before .before .before .before .before .get2 in
     let wait = c .before .before .wait in
-    takes-nothing (a .net .now) (cells (a .s .now)) (a .i) (a .h) (a .x) (get2 .result) (get .result) (get2 .ensures .0) (get .ensures .0) (cells
+    takes-nothing (cells (a .s .now)) (a .i) (a .h) (a .x) (get2 .result) (get .result) (get2 .ensures .0) (get .ensures .0) (cells
     (wait .last .0)) (omega arith) (wait .ensures)
 
 add-get-3 : tie.Need-add-get-3
@@ -44,25 +44,25 @@ add-get-3 c = search needs
 
 get-requires-3 : tie.Need-get-requires-3
 get-requires-3 c κs =
-    let p = c .before .before .before .before .before .before .before .before .pre in
+    let p = c .before .before .before .before .before .before .before .pre in
     let get = c .before .before .before .before .get in
     let get2 = c .before .before .get2 in
-    (p .0 .head, omega (arith, p .0 .within (omega (arith, get .ensures .0, get2 .ensures .0)), get .ensures .0), p .2)
+    (p .0 .head .0, p .0 .head .1, omega (arith, p .0 .within (omega (arith, get .ensures .0, get2 .ensures .0)), get .ensures .0), p .1)
 
 add-count : tie.Need-add-count
 add-count c = search needs
 
 count-requires : tie.Need-count-requires
 count-requires c κs =
-    let p = c .before .before .before .before .before .before .before .before .before .before .pre in
+    let p = c .before .before .before .before .before .before .before .before .before .pre in
     let get = c .before .before .before .before .before .before .get in
     let get2 = c .before .before .before .before .get2 in
-    (p .0 .low, omega (arith, p .0 .head), omega (arith, get .ensures .0, get2 .ensures .0, get2 .ensures .1), p .2)
+    (p .0 .own .0, p .0 .own .1, omega (arith, p .0 .head .1), omega (arith, get .ensures .0, get2 .ensures .0, get2 .ensures .1), p .1)
 
 hear-requires : tie.Need-hear-requires
 hear-requires c κs =
-    let a = c .before .before .before .before .before .before .before .before .before .before .before .before .before .before .args in
-    let p = c .before .before .before .before .before .before .before .before .before .before .before .before .before .before .pre in
+    let a = c .before .before .before .before .before .before .before .before .before .before .before .before .before .args in
+    let p = c .before .before .before .before .before .before .before .before .before .before .before .before .before .pre in
     let get = c .before .before .before .before .before .before .before .before .before .before .get in
     let get2 = c .before .before .before .before .before .before .before .before .get2 in
     let get3 = c .before .before .before .before .before .get3 in
@@ -70,15 +70,16 @@ hear-requires c κs =
     let b = p .0 in
     let m = cells (a .s .now) in
     let n = cells (count .last .0) in
-    let e = next-is (a .net .now) m (a .i) (a .h) (a .x) (get2 .result) (get .result) (get2 .ensures .0) (get .ensures .0) (omega arith) n
+    let e = next-is m (a .i) (a .h) (a .x) (get2 .result) (get .result) (get2 .ensures .0) (get .ensures .0) (omega arith) n
     (get3 .result) (get3 .ensures .0) in (
-      b .low,
-      b .head,
-      b .short,
+      b .own .0,
+      b .own .1,
+      b .head .1,
       omega (arith, b .sum (omega (arith, get .ensures .0, get2 .ensures .0)), e),
-      room-after (a .net .now) m (a .i) (a .h) (a .x) (get2 .result) (get .result) (get2 .ensures .0) (get .ensures .0) (omega arith) n
+      rises-after m (a .i) (a .h) (a .x) (get2 .result) (get .result) (get2 .ensures .0) (get .ensures .0) (omega arith) n
           (get3 .result) (get3 .ensures .0) (count .ensures) b,
-      p .1,
+      room-after m (a .i) (a .h) (a .x) (get2 .result) (get .result) (get2 .ensures .0) (get .ensures .0) (omega arith) n
+          (get3 .result) (get3 .ensures .0) (count .ensures) b,
       search needs,
     )
 
@@ -87,15 +88,16 @@ same-length-2 c = search needs
 
 returns-2 : tie.Need-returns-2
 returns-2 c =
-    let a = c .before .before .before .before .before .before .before .before .before .before .before .before .before .before .before .before .before .args in
+    let a = c .before .before .before .before .before .before .before .before .before .before .before .before .before .before .before
+    .before .args in
     let get = c .before .before .before .before .before .before .before .before .before .before .before .before .before .get in
     let get2 = c .before .before .before .before .before .before .before .before .before .before .before .get2 in
     let get3 = c .before .before .before .before .before .before .before .before .get3 in
     let count = c .before .before .before .before .before .before .count in
     let hear = c .before .before .hear in
     let m = cells (a .s .now) in
-    takes-one (a .net .now) m (a .i) (a .h) (a .x) (get2 .result) (get .result) (get2 .ensures .0) (get .ensures .0) (omega arith) (cells
-    (count .last .0)) (get3 .result) (get3 .ensures .0) (count .ensures) (cells (hear .last .1 .0)) (hear .result) (hear .ensures)
+    takes-one m (a .i) (a .h) (a .x) (get2 .result) (get .result) (get2 .ensures .0) (get .ensures .0) (omega arith) (cells
+    (count .last .0)) (get3 .result) (get3 .ensures .0) (count .ensures) (cells (hear .last .0)) (hear .result) (hear .ensures)
 
 pub take-spec : {M : Type 1} → statement M
 take-spec =

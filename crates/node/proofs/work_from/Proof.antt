@@ -1,9 +1,10 @@
 -- `work_from`: both loops keep that the work from here on is the work from the start; the outer one also, that the arc is rule 1's.
-use Rattle.node.proofs.Limits.{i-low, sent-low}
-use Rattle.node.proofs.Loops.{left, pick, Going, going-refl, going-trans, going-worked, going-working, chosen, stopped-there, able-there, waited-there, again₃, again₁}
+use Rattle.node.proofs.Limits.{i-node, sent-low}
+use Rattle.node.proofs.Loops.{left, pick, Going, going-refl, going-trans, going-worked, going-working, chosen, stopped-there}
+use Rattle.node.proofs.Loops.{able-there, waited-there, again₃, again₁}
 use Rattle.node.specs.Rules.{IsChoice}
 use Rattle.method.specs.Rules.{to₁, to₃}
-use Rattle.cells.specs.Part.{cells, stateSize}
+use Rattle.cells.specs.Part.{stateSize, cells}
 use lib.ListN.{length}
 use mathlib.Core.Path.{_≡_, _∙_, sym, refl}
 use borrow.Author.Needs.{needs}
@@ -46,7 +47,8 @@ get-requires c κs =
     let a = c .before .before .before .before .before .args in
     let p = c .before .before .before .before .before .pre in
     let choose = c .before .choose in
-    (i-low (a .net .now) (p .0) (p .1 .0) (cells (a .s .now)) (a .i) (p .1 .1), omega arith, choose .inv .0)
+    let at = i-node (a .net .now) (p .0) (p .1 .0) (cells (a .s .now)) (a .i) (p .1 .1) in
+    (at .0, at .1, omega arith, choose .inv .0)
 
 add-if1 : tie.Need-add-if1 Inv-take μ-take Inv-choose μ-choose
 add-if1 c = search needs
@@ -56,8 +58,10 @@ stop-requires c κs =
     let a = c .before .before .before .before .before .before .before .before .before .args in
     let p = c .before .before .before .before .before .before .before .before .before .pre in
     let choose = c .before .before .before .before .before .choose in
-    let w = going-working (choose .inv .1) (p .1) in (
-      i-low (a .net .now) (p .0) (w .0) (cells (choose .s)) (a .i) (w .1),
+    let w = going-working (choose .inv .1) (p .1) in
+    let at = i-node (a .net .now) (p .0) (w .0) (cells (choose .s)) (a .i) (w .1) in (
+      at .0,
+      at .1,
       sent-low (a .net .now) (p .0) (w .0) (cells (choose .s)) (a .i) (w .1),
       choose .inv .0,
     )
@@ -79,9 +83,9 @@ take-requires c κs =
     let p = c .before .before .before .before .before .before .before .before .before .before .pre in
     let choose = c .before .before .before .before .before .before .choose in
     let take = c .before .take in (
-      able-there (a .net .now) (p .0) (a .i) (cells (choose .s)) (cells (take .s)) (choose .chosen .sum) (choose .chosen .head) (take .inv .1)
+      able-there (a .net .now) (p .0) (a .i) (cells (choose .s)) (cells (take .s)) (choose .chosen .sum) (choose .chosen .head)
+          (take .inv .1)
           (going-working (choose .inv .1) (p .1)),
-      p .0 .size,
       take .inv .0,
     )
 
@@ -93,24 +97,30 @@ enum-told-2 c = search needs
 
 take-less : tie.Need-take-less Inv-take μ-take Inv-choose μ-choose
 take-less c =
-    let a = c .before .before .before .before .before .before .before .before .before .before .before .before .before .before .before .args in
-    let p = c .before .before .before .before .before .before .before .before .before .before .before .before .before .before .before .pre in
+    let a = c .before .before .before .before .before .before .before .before .before .before .before .before .before .before .before
+    .args in
+    let p = c .before .before .before .before .before .before .before .before .before .before .before .before .before .before .before .pre
+    in
     let choose = c .before .before .before .before .before .before .before .before .before .before .before .choose in
     let take = c .before .before .before .before .before .before .take in
     let take2 = c .before .before .before .before .take2 in
-    again₃ (a .net .now) (p .0) (a .i) (cells (choose .s)) (cells (take .s)) (choose .chosen .sum) (choose .chosen .head) (take .inv .1) (cells
-    (take2 .last .1 .0)) (take2 .result) (take2 .ensures) ((c .enum-told2) .given .1) (going-working (choose .inv .1) (p .1)) .1
+    again₃ (a .net .now) (p .0) (a .i) (cells (choose .s)) (cells (take .s)) (choose .chosen .sum) (choose .chosen .head) (take .inv .1)
+    (cells
+    (take2 .last .0)) (take2 .result) (take2 .ensures) ((c .enum-told2) .given .1) (going-working (choose .inv .1) (p .1)) .1
 
 take-again : tie.Need-take-again Inv-take μ-take Inv-choose μ-choose
 take-again c =
-    let a = c .before .before .before .before .before .before .before .before .before .before .before .before .before .before .before .args in
-    let p = c .before .before .before .before .before .before .before .before .before .before .before .before .before .before .before .pre in
+    let a = c .before .before .before .before .before .before .before .before .before .before .before .before .before .before .before
+    .args in
+    let p = c .before .before .before .before .before .before .before .before .before .before .before .before .before .before .before .pre
+    in
     let choose = c .before .before .before .before .before .before .before .before .before .before .before .choose in
     let take = c .before .before .before .before .before .before .take in
     let take2 = c .before .before .before .before .take2 in (
-      take2 .kept .1 .0 ∙ take .inv .0,
-      again₃ (a .net .now) (p .0) (a .i) (cells (choose .s)) (cells (take .s)) (choose .chosen .sum) (choose .chosen .head) (take .inv .1) (cells
-          (take2 .last .1 .0)) (take2 .result) (take2 .ensures) ((c .enum-told2) .given .1) (going-working (choose .inv .1) (p .1)) .0,
+      take2 .kept .0 ∙ take .inv .0,
+      again₃ (a .net .now) (p .0) (a .i) (cells (choose .s)) (cells (take .s)) (choose .chosen .sum) (choose .chosen .head) (take .inv .1)
+          (cells
+          (take2 .last .0)) (take2 .result) (take2 .ensures) ((c .enum-told2) .given .1) (going-working (choose .inv .1) (p .1)) .0,
     )
 
 enum-told-3 : tie.Need-enum-told-3 Inv-take μ-take Inv-choose μ-choose
@@ -118,36 +128,48 @@ enum-told-3 c = search needs
 
 choose-requires : tie.Need-choose-requires Inv-take μ-take Inv-choose μ-choose
 choose-requires c κs =
-    let a = c .before .before .before .before .before .before .before .before .before .before .before .before .before .before .before .before .args in
-    let p = c .before .before .before .before .before .before .before .before .before .before .before .before .before .before .before .before .pre in
+    let a = c .before .before .before .before .before .before .before .before .before .before .before .before .before .before .before
+    .before .args in
+    let p = c .before .before .before .before .before .before .before .before .before .before .before .before .before .before .before
+    .before .pre in
     let take = c .before .before .before .before .before .before .before .take in
-    let take2 = c .before .before .before .before .before .take2 in (
-      i-low (a .net .now) (p .0) (p .1 .0) (cells (a .s .now)) (a .i) (p .1 .1),
-      take2 .kept .1 .0 ∙ take .inv .0,
+    let take2 = c .before .before .before .before .before .take2 in
+    let at = i-node (a .net .now) (p .0) (p .1 .0) (cells (a .s .now)) (a .i) (p .1 .1) in (
+      at .0,
+      at .1,
+      take2 .kept .0 ∙ take .inv .0,
     )
 
 choose-less : tie.Need-choose-less Inv-take μ-take Inv-choose μ-choose
 choose-less c =
-    let a = c .before .before .before .before .before .before .before .before .before .before .before .before .before .before .before .before .before .args in
-    let p = c .before .before .before .before .before .before .before .before .before .before .before .before .before .before .before .before .before .pre in
+    let a = c .before .before .before .before .before .before .before .before .before .before .before .before .before .before .before
+    .before .before .args in
+    let p = c .before .before .before .before .before .before .before .before .before .before .before .before .before .before .before
+    .before .before .pre in
     let choose = c .before .before .before .before .before .before .before .before .before .before .before .before .before .choose in
     let take = c .before .before .before .before .before .before .before .before .take in
     let take2 = c .before .before .before .before .before .before .take2 in
-    again₁ (a .net .now) (p .0) (a .i) (cells (choose .s)) (cells (take .s)) (choose .chosen .sum) (choose .chosen .head) (take .inv .1) (cells
-    (take2 .last .1 .0)) (take2 .result) (take2 .ensures) ((c .before .before .enum-told3) .given .1) (going-working (choose .inv .1) (p .1)) .1
+    again₁ (a .net .now) (p .0) (a .i) (cells (choose .s)) (cells (take .s)) (choose .chosen .sum) (choose .chosen .head) (take .inv .1)
+    (cells
+    (take2 .last .0)) (take2 .result) (take2 .ensures) ((c .before .before .enum-told3) .given .1)
+    (going-working (choose .inv .1) (p .1)) .1
 
 choose-again : tie.Need-choose-again Inv-take μ-take Inv-choose μ-choose
 choose-again c =
-    let a = c .before .before .before .before .before .before .before .before .before .before .before .before .before .before .before .before .before .args in
-    let p = c .before .before .before .before .before .before .before .before .before .before .before .before .before .before .before .before .before .pre in
+    let a = c .before .before .before .before .before .before .before .before .before .before .before .before .before .before .before
+    .before .before .args in
+    let p = c .before .before .before .before .before .before .before .before .before .before .before .before .before .before .before
+    .before .before .pre in
     let choose = c .before .before .before .before .before .before .before .before .before .before .before .before .before .choose in
     let take = c .before .before .before .before .before .before .before .before .take in
     let take2 = c .before .before .before .before .before .before .take2 in
     let choose2 = c .choose2 in (
-      take2 .kept .1 .0 ∙ take .inv .0,
+      take2 .kept .0 ∙ take .inv .0,
       going-trans (choose .inv .1)
-          (again₁ (a .net .now) (p .0) (a .i) (cells (choose .s)) (cells (take .s)) (choose .chosen .sum) (choose .chosen .head) (take .inv .1) (cells
-          (take2 .last .1 .0)) (take2 .result) (take2 .ensures) ((c .before .before .enum-told3) .given .1) (going-working (choose .inv .1) (p .1)) .0),
+          (again₁ (a .net .now) (p .0) (a .i) (cells (choose .s)) (cells (take .s)) (choose .chosen .sum) (choose .chosen .head)
+          (take .inv .1) (cells
+          (take2 .last .0)) (take2 .result) (take2 .ensures) ((c .before .before .enum-told3) .given .1)
+          (going-working (choose .inv .1) (p .1)) .0),
       choose2 .ensures,
     )
 
@@ -165,26 +187,31 @@ returns c =
     let choose = c .before .before .before .before .before .before .before .before .choose in
     let get = c .before .before .before .before .before .before .get in
     let stop = c .before .before .stop in
-    going-worked (choose .inv .1) (stopped-there (a .net .now) (p .0) (a .i) (cells (choose .s)) (choose .chosen .sum) (choose .chosen .head)
+    going-worked (choose .inv .1)
+    (stopped-there (a .net .now) (p .0) (a .i) (cells (choose .s)) (choose .chosen .sum) (choose .chosen .head)
     (get .result) _ (choose .inv .2) (get .ensures .0) refl (cells (stop .last .0)) (omega arith) (stop .ensures))
 
 same-length-2 : tie.Need-same-length-2 Inv-take μ-take Inv-choose μ-choose
 same-length-2 c =
-    let p = c .before .before .before .before .before .before .before .before .before .before .before .before .before .before .before .pre in
+    let p = c .before .before .before .before .before .before .before .before .before .before .before .before .before .before .before .pre
+    in
     let take = c .before .before .before .before .before .before .take in
     let take2 = c .before .before .before .before .take2 in
-    take2 .kept .1 .0 ∙ take .inv .0 ∙ sym (p .3)
+    take2 .kept .0 ∙ take .inv .0 ∙ sym (p .3)
 
 returns-2 : tie.Need-returns-2 Inv-take μ-take Inv-choose μ-choose
 returns-2 c =
-    let a = c .before .before .before .before .before .before .before .before .before .before .before .before .before .before .before .args in
-    let p = c .before .before .before .before .before .before .before .before .before .before .before .before .before .before .before .pre in
+    let a = c .before .before .before .before .before .before .before .before .before .before .before .before .before .before .before
+    .args in
+    let p = c .before .before .before .before .before .before .before .before .before .before .before .before .before .before .before .pre
+    in
     let choose = c .before .before .before .before .before .before .before .before .before .before .before .choose in
     let take = c .before .before .before .before .before .before .take in
     let take2 = c .before .before .before .before .take2 in
     going-worked (choose .inv .1)
-    (waited-there (a .net .now) (p .0) (a .i) (cells (choose .s)) (cells (take .s)) (choose .chosen .sum) (choose .chosen .head) (take .inv .1) (cells
-    (take2 .last .1 .0)) (take2 .result) (take2 .ensures) ((c .enum-told) .given .1))
+    (waited-there (a .net .now) (p .0) (a .i) (cells (choose .s)) (cells (take .s)) (choose .chosen .sum) (choose .chosen .head)
+    (take .inv .1) (cells
+    (take2 .last .0)) (take2 .result) (take2 .ensures) ((c .enum-told) .given .1))
 
 pub work-from-spec : {M : Type 1} → statement M
 work-from-spec =

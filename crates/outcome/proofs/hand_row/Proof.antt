@@ -39,19 +39,25 @@ add-k c = search needs
 distance-requires : tie.Need-distance-requires Inv-loop μ-loop
 distance-requires c κs =
     let p = c .before .before .before .before .before .pre in
-    (omega arith, omega arith, p .2, p .3)
+    (omega arith, omega arith, omega arith, p .2, p .3)
 
 first-hop-requires : tie.Need-first-hop-requires Inv-loop μ-loop
 first-hop-requires c κs =
     let p = c .before .before .before .before .before .before .pre in
-    (omega arith, omega arith, p .2, p .3)
+    (omega arith, omega arith, omega arith, p .2, p .3)
 
 cast-hand-entry : tie.Need-cast-hand-entry Inv-loop μ-loop
 cast-hand-entry c =
     let start = c .before .before .before .before .before .before .before in
     let a = start .args in
-    let small = cells-small (a .s .now) (λ j. omega (arith, c .before .before .before .before .before .before .shared-slice-known .given j)) (a .i) in
-    omega (arith, c .first-hop .ensures, hop-small (cells (a .s .now) (a .i)) small (start .pre .2 .marks) (c .before .before .before .before .loop .k + 1) (omega arith))
+    let small = cells-small (a .s .now)
+    (λ j. omega (arith, c .before .before .before .before .before .before .shared-slice-known .given j)) (a .i) in
+    omega (
+      arith,
+      c .first-hop .ensures,
+      hop-small (cells (a .s .now) (a .i)) small (start .pre .2 .marks)
+          (c .before .before .before .before .loop .k + 1) (omega arith),
+    )
 
 hand-entry-requires : tie.Need-hand-entry-requires Inv-loop μ-loop
 hand-entry-requires c κs = search needs
@@ -61,8 +67,13 @@ loop-less c = search needs
 
 loop-again : tie.Need-loop-again Inv-loop μ-loop
 loop-again c =
-    let l = c .before .before .before .before .before .before .before .loop in
-    (omega arith, search needs, row-next _ _ _ _ _ _ _ _ _ (l .inv .2) (omega arith) (c .before .before .before .before .distance .ensures) (c .before .before .before .first-hop .ensures) (c .before .before .hand-entry .ensures))
+    let l = c .before .before .before .before .before .before .before .loop in (
+      omega arith,
+      search needs,
+      row-next _ _ _ _ _ _ _ _ _ (l .inv .2) (omega arith)
+          (c .before .before .before .before .distance .ensures) (c .before .before .before .first-hop .ensures)
+          (c .before .before .hand-entry .ensures),
+    )
 
 same-length : tie.Need-same-length Inv-loop μ-loop
 same-length c = search needs

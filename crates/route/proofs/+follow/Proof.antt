@@ -46,7 +46,7 @@ follow-first-hop-requires t c κs =
     let a = c .before .before .before .args in
     let p = c .before .before .before .pre .1 in
     let q = readable (cells (a .s .now)) (a .i) (a .y) (p .0 .asked) in
-    (q .0, q .1, q .2, p .2)
+    (q .0, q .1, q .2, q .3, p .2)
 
 follow-cast-room : (t : ℕ) → follow-lts.Need-cast-room (
   first-hop-reads.Asked,
@@ -68,7 +68,8 @@ follow-slice-write-room : (t : ℕ) → follow-lts.Need-slice-write-room (
 follow-slice-write-room t c =
     let a = c .before .before .before .before .args in
     let p = c .before .before .before .before .pre .1 in
-    inside (cells (a .s .now)) (a .i) (a .y) (p .0) (c .before .if1 .left) (c .first-hop .result) (c .first-hop .ensures) (a .at) (a .room .now) (p .1)
+    inside (cells (a .s .now)) (a .i) (a .y) (p .0) (c .before .if1 .left) (c .first-hop .result) (c .first-hop .ensures) (a .at)
+    (a .room .now) (p .1)
 
 follow-add-follow : (t : ℕ) → follow-lts.Need-add-follow (
   first-hop-reads.Asked,

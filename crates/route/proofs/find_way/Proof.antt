@@ -13,7 +13,7 @@ distance-requires c κs =
     let a = c .before .before .args in
     let p = c .before .before .pre in
     let q = readable (cells (a .s .now)) (a .i) (a .y) (p .0) in
-    (q .0, q .1, q .2, p .2)
+    (q .0, q .1, q .2, q .3, p .2)
 
 is-unknown-requires : tie.Need-is-unknown-requires
 is-unknown-requires c κs = search needs
@@ -23,7 +23,8 @@ returns c =
     let a = c .before .before .before .before .before .args in
     let p = c .before .before .before .before .before .pre in
     let distance = c .before .before .distance in
-    says-unknown (cells (a .s .now)) (a .i) (a .y) (p .0) (distance .result .0) (distance .ensures) (route (stateOf (cells (a .s .now))) (a .y)
+    says-unknown (cells (a .s .now)) (a .i) (a .y) (p .0) (distance .result .0) (distance .ensures)
+    (route (stateOf (cells (a .s .now))) (a .y)
     (a .i)) (a .room .now) (sym ((c .before .is-unknown) .ensures) ∙ (c .if1) .taken)
 
 is-unreachable-requires : tie.Need-is-unreachable-requires
@@ -34,7 +35,8 @@ returns-2 c =
     let a = c .before .before .before .before .before .before .before .args in
     let p = c .before .before .before .before .before .before .before .pre in
     let distance = c .before .before .before .before .distance in
-    says-unreachable (cells (a .s .now)) (a .i) (a .y) (p .0) (distance .result .0) (distance .ensures) (route (stateOf (cells (a .s .now))) (a .y)
+    says-unreachable (cells (a .s .now)) (a .i) (a .y) (p .0) (distance .result .0) (distance .ensures)
+    (route (stateOf (cells (a .s .now))) (a .y)
     (a .i)) (a .room .now) (sym ((c .before .is-unreachable) .ensures) ∙ (c .if2) .taken)
 
 follow-requires : tie.Need-follow-requires
@@ -47,7 +49,8 @@ follow-requires c κs =
     let is-unreachable = c .before .before .is-unreachable in
     let m = cells (a .s .now) in
     let xs = route (stateOf m) (a .y) (a .i) in
-    let w = says-filled m (a .i) (a .y) (p .0) (distance .result .0) (distance .ensures) xs (a .room .now) (sym (is-unknown .ensures) ∙ if1 .left)
+    let w = says-filled m (a .i) (a .y) (p .0) (distance .result .0) (distance .ensures) xs (a .room .now)
+    (sym (is-unknown .ensures) ∙ if1 .left)
     (sym (is-unreachable .ensures) ∙ (c .before .if2) .left) in
     (w, omega (arith, fits m (a .i) (a .y) w, p .1), p .2)
 
@@ -66,7 +69,8 @@ returns-3 c =
     let follow = c .before .before .follow in
     let m = cells (a .s .now) in
     let xs = route (stateOf m) (a .y) (a .i) in
-    let w = says-filled m (a .i) (a .y) (p .0) (distance .result .0) (distance .ensures) xs (a .room .now) (sym (is-unknown .ensures) ∙ if1 .left)
+    let w = says-filled m (a .i) (a .y) (p .0) (distance .result .0) (distance .ensures) xs (a .room .now)
+    (sym (is-unknown .ensures) ∙ if1 .left)
     (sym (is-unreachable .ensures) ∙ if2 .left) in
     filled-answers m (a .i) (a .y) w (a .room .now) (follow .last .1 .0) (follow .result) (p .1) (follow .ensures .0) (follow .ensures .1)
 

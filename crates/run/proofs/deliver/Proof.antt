@@ -1,7 +1,7 @@
 -- `deliver`: idle, kept, or worked on.
-use Rattle.run.proofs.Rested.{i-low, sent-low}
+use Rattle.run.proofs.Rested.{i-node, sent-low}
 use Rattle.run.proofs.Acting.{nothing-there, same-place, no-work, waits-elsewhere, delivery-working, chosen-again, works-on}
-use Rattle.cells.specs.Part.{cells}
+use Rattle.cells.specs.Part.{phaseAt, sentCount, waitsAt, deliveredAt, cells}
 use mathlib.Core.Path.{_≡_}
 use Prim.Native.Nat.{_+_, _<_}
 use native.Mathlib.Omega.{arith}
@@ -12,8 +12,13 @@ use Rattle.run.proofs.deliver.Tie as tie
 get-requires : tie.Need-get-requires
 get-requires c κs =
     let a = c .before .before .before .args in
-    let p = c .before .before .before .pre in
-    (i-low (a .net .now) (p .0) (cells (a .s .now)) (p .1) (a .h) (p .3), omega arith, p .4)
+    let p = c .before .before .before .pre in (
+      i-node (a .net .now) (p .0) (cells (a .s .now)) (p .1) (a .h) (p .3) .0,
+      i-node (a .net .now) (p .0) (cells (a .s .now)) (p .1)
+          (a .h) (p .3) .1,
+      omega arith,
+      p .4,
+    )
 
 add-get : tie.Need-add-get
 add-get c = search needs
@@ -22,8 +27,13 @@ get-requires-2 : tie.Need-get-requires-2
 get-requires-2 c κs =
     let a = c .before .before .before .before .before .args in
     let p = c .before .before .before .before .before .pre in
-    let l = i-low (a .net .now) (p .0) (cells (a .s .now)) (p .1) (a .h) (p .3) in
-    (i-low (a .net .now) (p .0) (cells (a .s .now)) (p .1) (a .i) (p .2), omega arith, p .4)
+    let l = i-node (a .net .now) (p .0) (cells (a .s .now)) (p .1) (a .h) (p .3) .1 in (
+      i-node (a .net .now) (p .0) (cells (a .s .now)) (p .1) (a .i) (p .2) .0,
+      i-node (a .net .now) (p .0) (cells (a .s .now)) (p .1)
+          (a .i) (p .2) .1,
+      omega arith,
+      p .4,
+    )
 
 same-length : tie.Need-same-length
 same-length c = search needs
@@ -48,8 +58,9 @@ count-requires c κs =
     let p = c .before .before .before .before .before .before .before .before .pre in
     let get = c .before .before .before .before .get in
     let get2 = c .before .before .get2 in
-    let l = i-low (a .net .now) (p .0) (cells (a .s .now)) (p .1) (a .h) (p .3) in (
-      i-low (a .net .now) (p .0) (cells (a .s .now)) (p .1) (a .i) (p .2),
+    let l = i-node (a .net .now) (p .0) (cells (a .s .now)) (p .1) (a .h) (p .3) .1 in (
+      i-node (a .net .now) (p .0) (cells (a .s .now)) (p .1) (a .i) (p .2) .0,
+      i-node (a .net .now) (p .0) (cells (a .s .now)) (p .1) (a .i) (p .2) .1,
       omega arith,
       omega (arith, get .ensures .0, get2 .ensures .0, sent-low (a .net .now) (p .0) (cells (a .s .now)) (p .1) (a .h) (p .3)),
       p .4,
@@ -58,8 +69,13 @@ count-requires c κs =
 get-requires-3 : tie.Need-get-requires-3
 get-requires-3 c κs =
     let a = c .before .before .before .before .before .before .before .before .before .before .before .before .args in
-    let p = c .before .before .before .before .before .before .before .before .before .before .before .before .pre in
-    (i-low (a .net .now) (p .0) (cells (a .s .now)) (p .1) (a .i) (p .2), omega arith, search needs)
+    let p = c .before .before .before .before .before .before .before .before .before .before .before .before .pre in (
+      i-node (a .net .now) (p .0) (cells (a .s .now)) (p .1) (a .i) (p .2) .0,
+      i-node (a .net .now) (p .0) (cells (a .s .now)) (p .1)
+          (a .i) (p .2) .1,
+      omega arith,
+      search needs,
+    )
 
 same-length-2 : tie.Need-same-length-2
 same-length-2 c = search needs
@@ -75,23 +91,37 @@ returns-2 c =
     let get3 = c .before .get3 in
     let m = cells (a .s .now) in
     let n = cells (count .last .0) in
-    let lt : m (a .i) (6 + a .h) < m (a .h) 1 = omega (arith, get .ensures .0, get2 .ensures .0, if1 .left) in
+    let lt : m (a .i) (deliveredAt + a .h) < m (a .h) sentCount = omega (arith, get .ensures .0, get2 .ensures .0, if1 .left) in
     waits-elsewhere (a .net .now) (p .0) m (p .1) (a .i) (p .2) (a .h) (p .3) lt n (count .ensures)
-    (omega (arith, get3 .ensures .0, same-place (a .net .now) (p .0) m (p .1) (a .i) (p .2) (a .h) (p .3) lt n (count .ensures) 5 (omega arith)))
+    (omega (
+      arith,
+      get3 .ensures .0,
+      same-place (a .net .now) (p .0) m (p .1) (a .i) (p .2) (a .h) (p .3) lt n (count .ensures) waitsAt
+          (omega arith),
+    ))
 
 get-requires-4 : tie.Need-get-requires-4
 get-requires-4 c κs =
-    let a = c .before .before .before .before .before .before .before .before .before .before .before .before .before .before .before .args in
-    let p = c .before .before .before .before .before .before .before .before .before .before .before .before .before .before .before .pre in
-    (i-low (a .net .now) (p .0) (cells (a .s .now)) (p .1) (a .i) (p .2), omega arith, search needs)
+    let a = c .before .before .before .before .before .before .before .before .before .before .before .before .before .before .before
+    .args in
+    let p = c .before .before .before .before .before .before .before .before .before .before .before .before .before .before .before .pre
+    in (
+      i-node (a .net .now) (p .0) (cells (a .s .now)) (p .1) (a .i) (p .2) .0,
+      i-node (a .net .now) (p .0) (cells (a .s .now)) (p .1)
+          (a .i) (p .2) .1,
+      omega arith,
+      search needs,
+    )
 
 same-length-3 : tie.Need-same-length-3
 same-length-3 c = search needs
 
 returns-3 : tie.Need-returns-3
 returns-3 c =
-    let a = c .before .before .before .before .before .before .before .before .before .before .before .before .before .before .before .before .before .args in
-    let p = c .before .before .before .before .before .before .before .before .before .before .before .before .before .before .before .before .before .pre in
+    let a = c .before .before .before .before .before .before .before .before .before .before .before .before .before .before .before
+    .before .before .args in
+    let p = c .before .before .before .before .before .before .before .before .before .before .before .before .before .before .before
+    .before .before .pre in
     let get = c .before .before .before .before .before .before .before .before .before .before .before .before .before .get in
     let get2 = c .before .before .before .before .before .before .before .before .before .before .before .get2 in
     let if1 = c .before .before .before .before .before .before .before .before .before .before .if1 in
@@ -99,25 +129,40 @@ returns-3 c =
     let get4 = c .before .get4 in
     let m = cells (a .s .now) in
     let n = cells (count .last .0) in
-    let lt : m (a .i) (6 + a .h) < m (a .h) 1 = omega (arith, get .ensures .0, get2 .ensures .0, if1 .left) in
+    let lt : m (a .i) (deliveredAt + a .h) < m (a .h) sentCount = omega (arith, get .ensures .0, get2 .ensures .0, if1 .left) in
     no-work (a .net .now) (p .0) m (p .1) (a .i) (p .2) (a .h) (p .3) lt n (count .ensures)
-    (omega (arith, get4 .ensures .0, same-place (a .net .now) (p .0) m (p .1) (a .i) (p .2) (a .h) (p .3) lt n (count .ensures) 0 (omega arith)))
+    (omega (
+      arith,
+      get4 .ensures .0,
+      same-place (a .net .now) (p .0) m (p .1) (a .i) (p .2) (a .h) (p .3) lt n (count .ensures) phaseAt
+          (omega arith),
+    ))
 
 add-get-2 : tie.Need-add-get-2
 add-get-2 c = search needs
 
 get-requires-5 : tie.Need-get-requires-5
 get-requires-5 c κs =
-    let a = c .before .before .before .before .before .before .before .before .before .before .before .before .before .before .before .before .before .before .args in
-    let p = c .before .before .before .before .before .before .before .before .before .before .before .before .before .before .before .before .before .before .pre in
-    let l = i-low (a .net .now) (p .0) (cells (a .s .now)) (p .1) (a .h) (p .3) in
-    (i-low (a .net .now) (p .0) (cells (a .s .now)) (p .1) (a .i) (p .2), omega arith, search needs)
+    let a = c .before .before .before .before .before .before .before .before .before .before .before .before .before .before .before
+    .before .before .before .args in
+    let p = c .before .before .before .before .before .before .before .before .before .before .before .before .before .before .before
+    .before .before .before .pre in
+    let l = i-node (a .net .now) (p .0) (cells (a .s .now)) (p .1) (a .h) (p .3) .1 in (
+      i-node (a .net .now) (p .0) (cells (a .s .now)) (p .1) (a .i) (p .2) .0,
+      i-node (a .net .now) (p .0) (cells (a .s .now)) (p .1)
+          (a .i) (p .2) .1,
+      omega arith,
+      search needs,
+    )
 
 work-from-requires : tie.Need-work-from-requires
 work-from-requires c κs =
-    let a = c .before .before .before .before .before .before .before .before .before .before .before .before .before .before .before .before .before .before .before .before .args in
-    let p = c .before .before .before .before .before .before .before .before .before .before .before .before .before .before .before .before .before .before .before .before .pre in
-    let get = c .before .before .before .before .before .before .before .before .before .before .before .before .before .before .before .before .get in
+    let a = c .before .before .before .before .before .before .before .before .before .before .before .before .before .before .before
+    .before .before .before .before .before .args in
+    let p = c .before .before .before .before .before .before .before .before .before .before .before .before .before .before .before
+    .before .before .before .before .before .pre in
+    let get = c .before .before .before .before .before .before .before .before .before .before .before .before .before .before .before
+    .before .get in
     let get2 = c .before .before .before .before .before .before .before .before .before .before .before .before .before .before .get2 in
     let if1 = c .before .before .before .before .before .before .before .before .before .before .before .before .before .if1 in
     let count = c .before .before .before .before .before .before .before .before .before .before .before .count in
@@ -128,29 +173,60 @@ work-from-requires c κs =
     let get5 = c .before .get5 in
     let m = cells (a .s .now) in
     let n = cells (count .last .0) in
-    let lt : m (a .i) (6 + a .h) < m (a .h) 1 = omega (arith, get .ensures .0, get2 .ensures .0, if1 .left) in
-    let up : m (a .i) 0 ≡ 1 = omega (arith, get4 .ensures .0, if3 .left, same-place (a .net .now) (p .0) m (p .1) (a .i) (p .2) (a .h) (p .3) lt n (count .ensures) 0 (omega arith)) in
-    let w : m (a .i) 5 ≡ a .h = omega (arith, get3 .ensures .0, if2 .left, same-place (a .net .now) (p .0) m (p .1) (a .i) (p .2) (a .h) (p .3) lt n (count .ensures) 5 (omega arith)) in
-    (p .0, delivery-working (a .net .now) (p .0) m (p .1) (a .i) (p .2) (a .h) (p .3) lt n (count .ensures) up, chosen-again (a .net .now) (p .0) m (p .1) (a .i) (p .2) (a .h) (p .3) lt n (count .ensures) up w (get5 .result) (get5 .ensures .0), search needs)
+    let lt : m (a .i) (deliveredAt + a .h) < m (a .h) sentCount = omega (arith, get .ensures .0, get2 .ensures .0, if1 .left) in
+    let up : m (a .i) phaseAt ≡ 1 =
+    omega (
+      arith,
+      get4 .ensures .0,
+      if3 .left,
+      same-place (a .net .now) (p .0) m (p .1) (a .i) (p .2) (a .h) (p .3) lt n
+          (count .ensures) phaseAt (omega arith),
+    ) in
+    let w : m (a .i) waitsAt ≡ a .h =
+    omega (
+      arith,
+      get3 .ensures .0,
+      if2 .left,
+      same-place (a .net .now) (p .0) m (p .1) (a .i) (p .2) (a .h) (p .3) lt n
+          (count .ensures) waitsAt (omega arith),
+    ) in (
+      p .0,
+      delivery-working (a .net .now) (p .0) m (p .1) (a .i) (p .2) (a .h) (p .3) lt n (count .ensures) up,
+      chosen-again (a .net .now)
+          (p .0) m (p .1) (a .i) (p .2) (a .h) (p .3) lt n (count .ensures) up w (get5 .result) (get5 .ensures .0),
+      search needs,
+    )
 
 same-length-4 : tie.Need-same-length-4
 same-length-4 c = search needs
 
 returns-4 : tie.Need-returns-4
 returns-4 c =
-    let a = c .before .before .before .before .before .before .before .before .before .before .before .before .before .before .before .before .before .before .before .before .before .before .before .args in
-    let p = c .before .before .before .before .before .before .before .before .before .before .before .before .before .before .before .before .before .before .before .before .before .before .before .pre in
-    let get = c .before .before .before .before .before .before .before .before .before .before .before .before .before .before .before .before .before .before .before .get in
-    let get2 = c .before .before .before .before .before .before .before .before .before .before .before .before .before .before .before .before .before .get2 in
-    let if1 = c .before .before .before .before .before .before .before .before .before .before .before .before .before .before .before .before .if1 in
+    let a = c .before .before .before .before .before .before .before .before .before .before .before .before .before .before .before
+    .before .before .before .before .before .before .before .before .args in
+    let p = c .before .before .before .before .before .before .before .before .before .before .before .before .before .before .before
+    .before .before .before .before .before .before .before .before .pre in
+    let get = c .before .before .before .before .before .before .before .before .before .before .before .before .before .before .before
+    .before .before .before .before .get in
+    let get2 = c .before .before .before .before .before .before .before .before .before .before .before .before .before .before .before
+    .before .before .get2 in
+    let if1 = c .before .before .before .before .before .before .before .before .before .before .before .before .before .before .before
+    .before .if1 in
     let count = c .before .before .before .before .before .before .before .before .before .before .before .before .before .before .count in
     let get4 = c .before .before .before .before .before .before .before .get4 in
     let if3 = c .before .before .before .before .before .before .if3 in
     let work = c .before .before .work-from in
     let m = cells (a .s .now) in
     let n = cells (count .last .0) in
-    let lt : m (a .i) (6 + a .h) < m (a .h) 1 = omega (arith, get .ensures .0, get2 .ensures .0, if1 .left) in
-    let up : m (a .i) 0 ≡ 1 = omega (arith, get4 .ensures .0, if3 .left, same-place (a .net .now) (p .0) m (p .1) (a .i) (p .2) (a .h) (p .3) lt n (count .ensures) 0 (omega arith)) in
+    let lt : m (a .i) (deliveredAt + a .h) < m (a .h) sentCount = omega (arith, get .ensures .0, get2 .ensures .0, if1 .left) in
+    let up : m (a .i) phaseAt ≡ 1 =
+    omega (
+      arith,
+      get4 .ensures .0,
+      if3 .left,
+      same-place (a .net .now) (p .0) m (p .1) (a .i) (p .2) (a .h) (p .3) lt n
+          (count .ensures) phaseAt (omega arith),
+    ) in
     works-on (a .net .now) (p .0) m (p .1) (a .i) (p .2) (a .h) (p .3) lt n (count .ensures) up (cells (work .last .1 .0)) (work .ensures)
 
 pub deliver-spec : {M : Type 1} → statement M

@@ -2,7 +2,7 @@
 use Rattle.run.proofs.Beginning.{fresh-state, begins}
 use Rattle.run.proofs.Running.{SoFar, counted-le, nothing-done, one-done, all-done}
 use Rattle.run.specs.Ran.{kindOf, tallied}
-use Rattle.cells.specs.Part.{cells, stateSize}
+use Rattle.cells.specs.Part.{stateSize, cells}
 use lib.ListN.{length}
 use mathlib.Core.Path.{_≡_, _∙_, sym}
 use Prim.Native.Nat.{_-_, _≤_}
@@ -13,7 +13,8 @@ use Rattle.run.proofs.run.Tie as tie
 
 abbrev Inv-loop : tie.InvT-loop
 Inv-loop net s₀ steps c₀ k₀ s c k =
-    (k ≤ length steps) × (length s ≡ stateSize) × SoFar net steps k (cells s) (tallied (c .taken) (c .idle) (c .unknown)) × (c .taken ≤ k) × (c .idle ≤ k) × (c .unknown ≤ k)
+    (k ≤ length steps) × (length s ≡ stateSize) × SoFar net steps k (cells s)
+    (tallied (c .taken) (c .idle) (c .unknown)) × (c .taken ≤ k) × (c .idle ≤ k) × (c .unknown ≤ k)
 
 abbrev μ-loop : tie.MeasureT-loop
 μ-loop net s₀ steps c₀ k₀ s c k =
@@ -32,7 +33,8 @@ loop-holds c =
     let m = cells (clear .last .1 .0) in (
       omega arith,
       clear .kept .1 .0 ∙ p .1,
-      nothing-done (a .net .now) (a .steps .now) m (begins (a .net .now) (a .s .now) (p .1) m (clear .ensures) (p .0)) (fresh-state (a .net .now)
+      nothing-done (a .net .now) (a .steps .now) m (begins (a .net .now) (a .s .now) (p .1) m (clear .ensures) (p .0))
+          (fresh-state (a .net .now)
           (a .s .now) (p .1) m (clear .ensures)),
       omega arith,
       omega arith,
@@ -62,17 +64,20 @@ loop-less c = search needs
 
 loop-again : tie.Need-loop-again Inv-loop μ-loop
 loop-again c =
-    let a = c .before .before .before .before .before .before .before .before .before .before .before .before .before .before .before .args in
+    let a = c .before .before .before .before .before .before .before .before .before .before .before .before .before .before .before
+    .args in
     let l = c .before .before .before .before .before .before .before .loop in
     let step = c .before .before .before .step in
     let tally = c .tally in
     let v = l .inv in
     let n = tally .result in
-    let q = counted-le (kindOf (step .result)) (tallied (l .c .taken) (l .c .idle) (l .c .unknown)) (tallied (n .taken) (n .idle) (n .unknown))
+    let q = counted-le (kindOf (step .result)) (tallied (l .c .taken) (l .c .idle) (l .c .unknown))
+    (tallied (n .taken) (n .idle) (n .unknown))
     (tally .ensures) in (
       omega arith,
       step .kept .1 .0 ∙ v .1,
-      one-done (a .net .now) (a .steps .now) (l .k) (cells (l .s)) (cells (step .last .1 .0)) (tallied (l .c .taken) (l .c .idle) (l .c .unknown))
+      one-done (a .net .now) (a .steps .now) (l .k) (cells (l .s)) (cells (step .last .1 .0))
+          (tallied (l .c .taken) (l .c .idle) (l .c .unknown))
           (tallied (n .taken) (n .idle) (n .unknown)) (kindOf (step .result)) (omega arith) (v .2) (step .ensures) (tally .ensures),
       omega (arith, q .0, v .3),
       omega (arith, q .1, v .4),
@@ -89,7 +94,8 @@ returns c =
     let a = c .before .before .before .before .before .before .before .before .before .args in
     let p = c .before .before .before .before .before .before .before .before .before .pre in
     let l = (c .before .loop) in
-    all-done (a .net .now) (a .steps .now) (l .k) (cells (l .s)) (tallied (l .c .taken) (l .c .idle) (l .c .unknown)) (p .0) (omega arith) (l .inv .2)
+    all-done (a .net .now) (a .steps .now) (l .k) (cells (l .s)) (tallied (l .c .taken) (l .c .idle) (l .c .unknown)) (p .0) (omega arith)
+    (l .inv .2)
 
 pub run-spec : {M : Type 1} → statement M
 run-spec =

@@ -1,7 +1,7 @@
 -- `start`: idle, or begun and worked.
-use Rattle.run.proofs.Rested.{i-low}
+use Rattle.run.proofs.Rested.{i-node}
 use Rattle.run.proofs.Acting.{started-already, blank-sent, blank-table, start-working, started-now}
-use Rattle.cells.specs.Part.{cells}
+use Rattle.cells.specs.Part.{phaseAt, cells}
 use mathlib.Core.Path.{_≡_, _∙_, sym}
 use native.Mathlib.Omega.{arith}
 use borrow.Author.Needs.{needs}
@@ -11,8 +11,13 @@ use Rattle.run.proofs.start.Tie as tie
 get-requires : tie.Need-get-requires
 get-requires c κs =
     let a = c .before .before .before .args in
-    let p = c .before .before .before .pre in
-    (i-low (a .net .now) (p .0) (cells (a .s .now)) (p .1) (a .i) (p .2), omega arith, p .3)
+    let p = c .before .before .before .pre in (
+      i-node (a .net .now) (p .0) (cells (a .s .now)) (p .1) (a .i) (p .2) .0,
+      i-node (a .net .now) (p .0) (cells (a .s .now)) (p .1)
+          (a .i) (p .2) .1,
+      omega arith,
+      p .3,
+    )
 
 same-length : tie.Need-same-length
 same-length c = search needs
@@ -29,8 +34,9 @@ begin-requires c κs =
     let p = c .before .before .before .before .before .before .pre in
     let get = c .before .before .get in
     let m = cells (a .s .now) in
-    let z : m (a .i) 0 ≡ 0 = sym (get .ensures .0) ∙ (c .before .if1) .left in (
-      i-low (a .net .now) (p .0) m (p .1) (a .i) (p .2),
+    let z : m (a .i) phaseAt ≡ 0 = sym (get .ensures .0) ∙ (c .before .if1) .left in (
+      i-node (a .net .now) (p .0) m (p .1) (a .i) (p .2) .0,
+      i-node (a .net .now) (p .0) m (p .1) (a .i) (p .2) .1,
       omega (arith, blank-sent (a .net .now) (p .0) m (p .1) (a .i) (p .2) z),
       omega (
         arith,
@@ -47,7 +53,7 @@ work-requires c κs =
     let if1 = c .before .before .before .before .before .if1 in
     let begin = c .before .before .before .begin in
     let m = cells (a .s .now) in
-    let z : m (a .i) 0 ≡ 0 = sym (get .ensures .0) ∙ if1 .left in
+    let z : m (a .i) phaseAt ≡ 0 = sym (get .ensures .0) ∙ if1 .left in
     (p .0, start-working (a .net .now) (p .0) m (p .1) (a .i) (p .2) z (cells (begin .last .0)) (begin .ensures), search needs)
 
 same-length-2 : tie.Need-same-length-2
@@ -62,8 +68,9 @@ returns-2 c =
     let begin = c .before .before .before .before .before .before .begin in
     let work = c .before .before .work in
     let m = cells (a .s .now) in
-    let z : m (a .i) 0 ≡ 0 = sym (get .ensures .0) ∙ if1 .left in
-    started-now (a .net .now) (p .0) m (p .1) (a .i) (p .2) z (cells (begin .last .0)) (begin .ensures) (cells (work .last .1 .0)) (work .ensures)
+    let z : m (a .i) phaseAt ≡ 0 = sym (get .ensures .0) ∙ if1 .left in
+    started-now (a .net .now) (p .0) m (p .1) (a .i) (p .2) z (cells (begin .last .0)) (begin .ensures) (cells (work .last .1 .0))
+    (work .ensures)
 
 pub start-spec : {M : Type 1} → statement M
 start-spec =

@@ -10,22 +10,26 @@ use Rattle.writer.proofs.put_records.Statement.{statement}
 use Rattle.writer.proofs.put_records.Tie as tie
 
 abbrev Inv-loop : tie.InvT-loop
-Inv-loop room₀ targets distances hops count k₀ before₀ held₀ room k before held = (k ≤ count) × (length room ≡ length room₀) × Putting targets distances hops room₀ room k before held
+Inv-loop room₀ targets distances hops count k₀ before₀ held₀ room k before held =
+    (k ≤ count) × (length room ≡ length room₀) × Putting targets distances hops room₀ room k before held
 
 abbrev μ-loop : tie.MeasureT-loop
 μ-loop room₀ targets distances hops count k₀ before₀ held₀ room k before held = count - k
 
 loop-holds : tie.Need-loop-holds Inv-loop μ-loop
-loop-holds c = (omega arith, omega arith, putting-start (c .before .before .before .before .args .targets .now) (c .before .before .before .before .args .distances .now) (c .before .before .before .before .args .hops .now) (c .before .before .before .before .args .room .now))
+loop-holds c = (
+  omega arith,
+  omega arith,
+  putting-start (c .before .before .before .before .args .targets .now)
+      (c .before .before .before .before .args .distances .now) (c .before .before .before .before .args .hops .now)
+      (c .before .before .before .before .args .room .now),
+)
 
 mul-p : tie.Need-mul-p Inv-loop μ-loop
 mul-p c = search needs
 
 add-p : tie.Need-add-p Inv-loop μ-loop
 add-p c = search needs
-
-mul-wide : tie.Need-mul-wide Inv-loop μ-loop
-mul-wide c = search needs
 
 shared-slice-read-wide : tie.Need-shared-slice-read-wide Inv-loop μ-loop
 shared-slice-read-wide c = search needs
@@ -36,9 +40,6 @@ wide-requires c κs = search needs
 less-requires : tie.Need-less-requires Inv-loop μ-loop
 less-requires c κs = search needs
 
-mul-wide-2 : tie.Need-mul-wide-2 Inv-loop μ-loop
-mul-wide-2 c = search needs
-
 shared-slice-read-wide-2 : tie.Need-shared-slice-read-wide-2 Inv-loop μ-loop
 shared-slice-read-wide-2 c = search needs
 
@@ -47,9 +48,6 @@ wide-requires-2 c κs = search needs
 
 less-requires-2 : tie.Need-less-requires-2 Inv-loop μ-loop
 less-requires-2 c κs = search needs
-
-mul-wide-3 : tie.Need-mul-wide-3 Inv-loop μ-loop
-mul-wide-3 c = search needs
 
 shared-slice-read-wide-3 : tie.Need-shared-slice-read-wide-3 Inv-loop μ-loop
 shared-slice-read-wide-3 c = search needs
@@ -67,7 +65,10 @@ join-requires : tie.Need-join-requires Inv-loop μ-loop
 join-requires c κs = search needs
 
 add-x : tie.Need-add-x Inv-loop μ-loop
-add-x c = record { fits = omega (arith, c .before .before .before .before .before .before .before .before .before .before .before .loop .inv .2 .small) }
+add-x c = record {
+  fits = omega
+      (arith, c .before .before .before .before .before .before .before .before .before .before .before .loop .inv .2 .small);
+}
 
 add-flush : tie.Need-add-flush Inv-loop μ-loop
 add-flush c = search needs
@@ -83,9 +84,16 @@ loop-less c = search needs
 
 loop-again : tie.Need-loop-again Inv-loop μ-loop
 loop-again c =
-    let l = c .before .before .before .before .before .before .before .before .before .before .before .before .before .before .before .loop in
-    let n = putting-next _ _ _ _ (l .inv .2) (omega arith) (c .before .before .before .before .before .before .before .before .before .before .before .less .ensures ∙ ap (λ (x : ℕ). x - 1) (c .before .before .before .before .before .before .before .before .before .before .before .before .wide .ensures)) (c .before .before .before .before .before .before .before .before .less2 .ensures ∙ ap (λ (x : ℕ). x - 1) (c .before .before .before .before .before .before .before .before .before .wide2 .ensures))
-    (c .before .before .before .before .before .before .wide3 .ensures) (c .before .before .before .before .join .ensures .0 ∙ ap (joined _ _) (c .before .before .before .before .before .less3 .ensures)) in
+    let l = c .before .before .before .before .before .before .before .before .before .before .before .before .before .before .before
+    .loop in
+    let n = putting-next _ _ _ _ (l .inv .2) (omega arith)
+    (c .before .before .before .before .before .before .before .before .before .before .before .less .ensures
+    ∙ ap (λ (x : ℕ). x - 1) (c .before .before .before .before .before .before .before .before .before .before .before .before .wide
+    .ensures)) (c .before .before .before .before .before .before .before .before .less2 .ensures
+    ∙ ap (λ (x : ℕ). x - 1) (c .before .before .before .before .before .before .before .before .before .wide2 .ensures))
+    (c .before .before .before .before .before .before .wide3 .ensures)
+    (c .before .before .before .before .join .ensures .0
+    ∙ ap (joined _ _) (c .before .before .before .before .before .less3 .ensures)) in
     (omega arith, search needs, rw (c .before .before .flush .ensures) n)
 
 same-length : tie.Need-same-length Inv-loop μ-loop
@@ -105,15 +113,12 @@ put-records-spec =
     loop-holds
     mul-p
     add-p
-    mul-wide
     shared-slice-read-wide
     wide-requires
     less-requires
-    mul-wide-2
     shared-slice-read-wide-2
     wide-requires-2
     less-requires-2
-    mul-wide-3
     shared-slice-read-wide-3
     wide-requires-3
     mul-x

@@ -1,0 +1,76 @@
+-- Every run can be brought to its end, however messages travel: while a node has not stopped some step is taken, and no run takes more
+-- than so many.
+-- Assumes nothing.
+use mathlib.Core.Path.{_≡_, refl, sym, ap, subst, _∙_}
+use mathlib.Core.Logic.{_⊎_, inl, inr}
+use mathlib.Core.List.{List, [], _∷_, _++_, append-nil, append-assoc}
+use Prim.Native.Nat.{ℕ, zero, suc, _+_, _≤_, _<_}
+use native.Mathlib.Omega.{arith}
+use Rattle.method.specs.Network.{Net, IsNode, Valid}
+use Rattle.method.specs.Loop.{Loopless}
+use Rattle.method.specs.Rules.{Phase, unstarted, started, stopped, Node}
+use Rattle.method.specs.Steps.{Step, Kind, taken, counted, Counts, counts}
+use Rattle.method.specs.Entries.{nodes}
+use Rattle.method.proofs.Numbers.{last-or-before}
+use Rattle.method.proofs.Far.{farthest}
+use Rattle.method.proofs.Counted.{each}
+use Rattle.method.proofs.Taken.{taken-few}
+use Rattle.method.proofs.Progress.{some-value}
+
+-- the nodes 1 to k have stopped
+abbrev pub AllStopped : (ℕ → Node) → ℕ → Type 0
+AllStopped nd k = (i : ℕ) → IsNode k i → nd i .phase ≡ stopped
+
+-- all have, or one has not
+pub all-or-one : (nd : ℕ → Node) (k : ℕ) → AllStopped nd k ⊎ ((i : ℕ) × IsNode k i × (nd i .phase ≡ stopped → ⊥))
+all-or-one nd zero = inl (λ i at. absurd (omega arith))
+all-or-one nd (suc k) = go (nd (suc k) .phase) refl (all-or-one nd k)
+  where
+    one : (nd (suc k) .phase ≡ stopped → ⊥) → (i : ℕ) × IsNode (suc k) i × (nd i .phase ≡ stopped → ⊥)
+    one ne = (suc k, (omega arith, omega arith), ne)
+
+    last : AllStopped nd k → nd (suc k) .phase ≡ stopped → AllStopped nd (suc k)
+    last all e i at = by (last-or-before k i at)
+      where
+        by : (i ≡ suc k) ⊎ IsNode k i → nd i .phase ≡ stopped
+        by (inl q) = ap (λ (n : ℕ). nd n .phase) q ∙ e
+        by (inr there) = all i there
+
+    go : (ph : Phase) → nd (suc k) .phase ≡ ph → AllStopped nd k ⊎ ((i : ℕ) × IsNode k i × (nd i .phase ≡ stopped → ⊥))
+        → AllStopped nd (suc k) ⊎ ((i : ℕ) × IsNode (suc k) i × (nd i .phase ≡ stopped → ⊥))
+    go unstarted e r = inr (one (λ q. let z : _≡_ {A = ℕ} 0 1 = cc in omega arith))
+    go started e r = inr (one (λ q. let z : _≡_ {A = ℕ} 0 1 = cc in omega arith))
+    go stopped e (inl all) = inl (last all e)
+    go stopped e (inr p) = let at = p .1 in inr (p .0, (omega arith, omega arith), p .2)
+
+-- Nodes after each list of steps, whatever a step is, and a count that some step raises while a node has not stopped, but never over
+-- `most`.
+module _ {A : Type 0} (nd : List A → ℕ → Node) (n : ℕ) (count : List A → ℕ) (most : ℕ) (low : (bs : List A) → count bs ≤ most)
+    (on : (bs : List A) (i : ℕ) → IsNode n i → (nd bs i .phase ≡ stopped → ⊥) → (b : A) × (count (bs ++ (b ∷ [])) ≡ suc (count bs))) where
+  abbrev Ending : List A → Type 0
+  Ending bs = (cs : List A) × AllStopped (nd (bs ++ cs)) n
+
+  further : (k : ℕ) (bs : List A) → most < count bs + k → Ending bs
+  further zero bs lt = absurd (omega (arith, low bs))
+  further (suc k) bs lt = go (all-or-one (nd bs) n) (λ cs le. further k cs le)
+    where
+      go : AllStopped (nd bs) n ⊎ ((i : ℕ) × IsNode n i × (nd bs i .phase ≡ stopped → ⊥))
+          → ((cs : List A) → most < count cs + k → Ending cs) → Ending bs
+      go (inl all) rec = ([], subst (λ (cs : List A). AllStopped (nd cs) n) (sym (append-nil bs)) all)
+      go (inr p) rec =
+          let s = on bs (p .0) (p .1) (p .2) in
+          let r = rec (bs ++ (s .0 ∷ [])) (omega (arith, s .1)) in
+          (s .0 ∷ r .0, subst (λ (cs : List A). AllStopped (nd cs) n) (append-assoc bs (s .0 ∷ []) (r .0)) (r .1))
+
+  pub ends : (bs : List A) → (cs : List A) × AllStopped (nd (bs ++ cs)) n
+  ends bs = further (suc most) bs (omega arith)
+
+-- so it is with 01's runs
+pub runs-end : (net : Net) → Valid net → Loopless net → (bs : List Step) → (cs : List Step) × AllStopped (nodes net (bs ++ cs)) (net .n)
+runs-end net va loopless = ends (nodes net) (net .n) (λ bs. counts net bs .taken) (farthest net) (taken-few net va) on
+  where
+    on : (bs : List Step) (i : ℕ) → IsNode (net .n) i → (nodes net bs i .phase ≡ stopped → ⊥)
+        → (b : Step) × (counts net (bs ++ (b ∷ [])) .taken ≡ suc (counts net bs .taken))
+    on bs i at ne =
+        let s = some-value net va loopless bs i at ne in
+        (s .0, ap (λ (c : Counts). c .taken) (each net bs (s .0)) ∙ ap (λ (k : Kind). counted k (counts net bs) .taken) (s .1))
