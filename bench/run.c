@@ -13,20 +13,21 @@ struct run_case {
     unsigned arcs, lmax;
     enum order order;
     size_t most;
+    double wanted; /* at most this ratio to plain C at -O2; 0: nothing is asked, as of a call without a run */
 };
 
 static const struct run_case cases[] = {
-    {"240 arcs to 15, any order", 240, 15, ANY_ARC, STEP_ROOM},
-    {"240 arcs to 15, in turn", 240, 15, IN_TURN, STEP_ROOM},
-    {"240 arcs to 4, any order", 240, 4, ANY_ARC, STEP_ROOM},
-    {"240 arcs of 1, any order", 240, 1, ANY_ARC, STEP_ROOM},
-    {"48 arcs to 15, any order", 48, 15, ANY_ARC, STEP_ROOM},
-    {"48 arcs to 15, in turn", 48, 15, IN_TURN, STEP_ROOM},
-    {"32 arcs to 15, any order", 32, 15, ANY_ARC, STEP_ROOM},
-    {"32 arcs of 1, in turn", 32, 1, IN_TURN, STEP_ROOM},
-    {"240 arcs, no step", 240, 15, ANY_ARC, 0},
-    {"48 arcs, a million bytes", 48, 15, ANY_BYTE, 1000000},
-    {"240 arcs, a million bytes", 240, 15, ANY_BYTE, 1000000},
+    {"240 arcs to 15, any order", 240, 15, ANY_ARC, STEP_ROOM, 1.05},
+    {"240 arcs to 15, in turn", 240, 15, IN_TURN, STEP_ROOM, 1.05},
+    {"240 arcs to 4, any order", 240, 4, ANY_ARC, STEP_ROOM, 1.05},
+    {"240 arcs of 1, any order", 240, 1, ANY_ARC, STEP_ROOM, 1.05},
+    {"48 arcs to 15, any order", 48, 15, ANY_ARC, STEP_ROOM, 1.05},
+    {"48 arcs to 15, in turn", 48, 15, IN_TURN, STEP_ROOM, 1.05},
+    {"32 arcs to 15, any order", 32, 15, ANY_ARC, STEP_ROOM, 1.05},
+    {"32 arcs of 1, in turn", 32, 1, IN_TURN, STEP_ROOM, 1.05},
+    {"240 arcs, no step", 240, 15, ANY_ARC, 0, 0},
+    {"48 arcs, a million bytes", 48, 15, ANY_BYTE, 1000000, 1.1},
+    {"240 arcs, a million bytes", 240, 15, ANY_BYTE, 1000000, 1.05},
 };
 
 static struct house houses[HOUSES];
@@ -94,7 +95,7 @@ static void one_case(const struct run_case *c)
         steps += (double)houses[k].steps_len / many;
     }
     struct timing t = compare(rivals, 4);
-    print_row(c->name, t.least[LIBRARY] / many / 1e3, t, 1.15);
+    print_row(c->name, t.least[LIBRARY] / many / 1e3, t, c->wanted);
     printf("   %8.0f steps, search %.1f us\n", steps, t.least[3] / many / 1e3);
     for (int k = 0; k < many; k++)
         free(houses[k].steps);
@@ -102,7 +103,7 @@ static void one_case(const struct run_case *c)
 
 int main(void)
 {
-    begin_table("whole runs, 16 nodes", "us", 1.15);
+    begin_table("whole runs, 16 nodes", "us", 1.05);
     for (size_t k = 0; k < sizeof cases / sizeof *cases; k++)
         one_case(&cases[k]);
     return 0;

@@ -6,7 +6,7 @@
  * of the buffer before it: of bytes, of arcs, or of 16-bit numbers. Pointers are valid for their lengths and buffers do not overlap; one
  * of length 0 may be NULL. The library needs memcpy and memset, and nothing else.
  *
- * Stack, measured on x86-64: under 16 KiB for a call that runs steps, under 256 bytes for reading a file (docs/BENCHMARKS.md has each).
+ * Stack, measured on x86-64: under 8 KiB for a call that runs steps, under 256 bytes for reading a file (docs/BENCHMARKS.md has each).
  */
 #ifndef ZAQFINELL_H
 #define ZAQFINELL_H
