@@ -1,5 +1,6 @@
 # Two commands: `make demo` shows the library at work, `make test` is the whole gate. `make bench` times it against plain C,
-# `make pictures` draws the sample house, `make check-long` has other people's programs look at the method and at the library's answers.
+# `make pictures` draws the sample house, `make check-long` has other people's programs look at the method and at the library's answers, and
+# shows that the outside tests notice planted mistakes.
 .PHONY: demo test bench pictures check-long clean
 
 demo:

@@ -25,7 +25,7 @@ void mix(uint8_t *list, unsigned count)
     }
 }
 
-/* Arcs as bytes, tail and head: the ring's first, the others behind them in any order. */
+/* Arcs as bytes, tail and head: the ring's first, the others after them in any order. */
 static void list_arcs(uint8_t arc[240])
 {
     unsigned count = 0;
@@ -73,13 +73,7 @@ static uint8_t next_step(const struct house *h, enum order order, const uint8_t 
 
 static void note_outcome(struct house *h, const struct ref_run *run)
 {
-    h->expected = (struct outcome){.counts = {run->taken, run->idle, run->unknown, ref_stopped(run)}};
-    for (unsigned i = 1; i <= 16; i++)
-        for (unsigned y = 1; y <= 16; y++) {
-            struct ref_entry e = ref_entry_of(run, i, y);
-            h->expected.entries[i - 1][y - 1][0] = (uint16_t)header_distance(e);
-            h->expected.entries[i - 1][y - 1][1] = (uint16_t)header_hop(e);
-        }
+    put_outcome(run, h->expected.counts, h->expected.entries);
     for (unsigned i = 1; i <= 16; i++)
         h->file_len[i - 1] = run->node[i].started ? ref_write_file(run, i, h->file[i - 1]) : 0;
 }

@@ -7,10 +7,11 @@
 
 enum { NET_ROOM = 363, STEP_ROOM = 1000000 };
 
-/* What a run leaves behind. */
+/* What a run of a house of sixteen leaves in the two rooms. */
+enum { ENTRIES = 2 * 16 * 16 };
 struct outcome {
     uint64_t counts[4];
-    uint16_t entries[16][16][2];
+    uint16_t entries[ENTRIES];
 };
 
 struct house {

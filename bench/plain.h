@@ -8,11 +8,12 @@
     uint32_t plain_check_##level(const uint8_t *net, size_t net_len);                                                                      \
     uint32_t plain_check_arcs_##level(uint8_t n, uint8_t lmax, const zaq_arc *arcs, size_t count);                                         \
     uint32_t plain_run_##level(                                                                                                            \
-        const uint8_t *net, size_t net_len, const uint8_t *steps, size_t steps_len, uint64_t counts[4], uint16_t entries[16][16][2]);      \
+        const uint8_t *net, size_t net_len, const uint8_t *steps, size_t steps_len, uint64_t counts[4], uint16_t *entries,                 \
+        size_t entries_len);                                                                                                               \
     uint32_t plain_write_##level(                                                                                                          \
         const uint8_t *net, size_t net_len, const uint8_t *steps, size_t steps_len, uint32_t node, uint8_t *room, size_t room_len);        \
     uint32_t plain_read_##level(const uint8_t *file, size_t file_len, uint32_t target);                                                    \
-    uint32_t plain_shortest_##level(const uint8_t *net, size_t net_len, uint16_t entries[16][16][2]);
+    uint32_t plain_shortest_##level(const uint8_t *net, size_t net_len, uint16_t *entries);
 
 PLAIN_CALLS(O2)
 PLAIN_CALLS(O3)

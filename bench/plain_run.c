@@ -72,7 +72,7 @@ uint32_t PLAIN(check)(const uint8_t *net, size_t net_len)
     return read_network(net, net_len, &laid);
 }
 
-static void clear(struct state *s, const struct network *net, uint16_t entries[16][16][2])
+static void clear(struct state *s, const struct network *net, uint16_t *entries)
 {
     memset(s, 0, offsetof(struct state, waits));
     memset(s->waits, NOBODY, sizeof s->waits);
@@ -84,8 +84,8 @@ static void clear(struct state *s, const struct network *net, uint16_t entries[1
         }
     for (unsigned i = 0; i < net->n; i++)
         for (unsigned y = 0; y < net->n; y++) {
-            entries[i][y][0] = ZAQ_UNKNOWN;
-            entries[i][y][1] = ZAQ_NO_HOP;
+            *entries++ = ZAQ_UNKNOWN;
+            *entries++ = ZAQ_NO_HOP;
         }
 }
 
@@ -102,23 +102,24 @@ static void send_length(struct state *s, unsigned i, unsigned x)
     send(s, i, LABELS + x);
 }
 
-static void fill(struct state *s, unsigned i, unsigned y, unsigned x, unsigned hop, uint16_t entries[16][16][2])
+/* `row` is node i's part of the caller's room. */
+static void fill(struct state *s, unsigned i, unsigned y, unsigned x, unsigned hop, uint16_t *row)
 {
-    entries[i][y][0] = (uint16_t)x;
-    entries[i][y][1] = (uint16_t)hop;
+    row[2 * y] = (uint16_t)x;
+    row[2 * y + 1] = (uint16_t)hop;
     s->order[i][s->filled[i]++] = (uint8_t)y;
     s->marks[i] = (uint16_t)(s->marks[i] | 1u << y);
     s->lp[i] = (uint16_t)x;
 }
 
-static void stop(struct state *s, unsigned i, unsigned n, uint16_t entries[16][16][2])
+static void stop(struct state *s, unsigned i, unsigned n, uint16_t *row)
 {
     send(s, i, END);
     s->phase[i] = 2;
     s->waits[i] = NOBODY;
     for (unsigned y = 0; y < n; y++)
-        if (entries[i][y][0] == ZAQ_UNKNOWN)
-            entries[i][y][0] = ZAQ_UNREACHABLE;
+        if (row[2 * y] == ZAQ_UNKNOWN)
+            row[2 * y] = ZAQ_UNREACHABLE;
 }
 
 /* Rule 1: sums are compared first, heads after them. */
@@ -131,7 +132,7 @@ static unsigned least_key(const int16_t *keys)
 }
 
 /* Rules 3 and 4 on the arc to h: true if its current item changed, and false if the node is to wait for it. */
-static int take(struct state *s, unsigned i, unsigned h, unsigned x, const uint8_t *length, uint16_t entries[16][16][2])
+static int take(struct state *s, unsigned i, unsigned h, unsigned x, const uint8_t *length, uint16_t *row)
 {
     unsigned site = i << 4 | h, taken = s->taken[site], delivered = s->delivered[site], changed = 0;
     while (taken < delivered && !changed) {
@@ -143,7 +144,7 @@ static int take(struct state *s, unsigned i, unsigned h, unsigned x, const uint8
         } else if (!(s->marks[i] >> m & 1)) {
             send_length(s, i, x);
             send(s, i, m);
-            fill(s, i, m, x, h + 1, entries);
+            fill(s, i, m, x, h + 1, row);
         }
     }
     s->taken[site] = (uint16_t)taken;
@@ -151,15 +152,15 @@ static int take(struct state *s, unsigned i, unsigned h, unsigned x, const uint8
 }
 
 /* A node's work from the arc of this key on, which rule 1 has chosen. */
-static void work(struct state *s, const struct network *net, unsigned i, unsigned key, uint16_t entries[16][16][2])
+static void work(struct state *s, const struct network *net, unsigned i, unsigned key, uint16_t *row)
 {
     for (;; key = least_key(s->keys[i])) {
         unsigned x = key >> 4, h = key & 15;
         if (x > s->lp[i] + net->lmax) {
-            stop(s, i, net->n, entries);
+            stop(s, i, net->n, row);
             return;
         }
-        if (!take(s, i, h, x, net->length, entries)) {
+        if (!take(s, i, h, x, net->length, row)) {
             send_length(s, i, x);
             s->waits[i] = (uint8_t)h;
             return;
@@ -168,9 +169,9 @@ static void work(struct state *s, const struct network *net, unsigned i, unsigne
 }
 
 /* Runs the steps; counts as the header says. */
-static void run(struct state *s, const struct network *net, const uint8_t *steps, size_t len, uint64_t counts[4], uint16_t entries[16][16][2])
+static void run(struct state *s, const struct network *net, const uint8_t *steps, size_t len, uint64_t counts[4], uint16_t *entries)
 {
-    size_t idle = 0, unknown = 0, stopped = 0;
+    size_t idle = 0, unknown = 0, stopped = 0, row = 2 * (size_t)net->n;
     clear(s, net, entries);
     for (size_t k = 0; k < len; k++) {
         unsigned b = steps[k], i = b;
@@ -187,7 +188,7 @@ static void run(struct state *s, const struct network *net, const uint8_t *steps
             s->delivered[site]++;
             i = site >> 4;
             if (s->waits[i] == h) /* it would choose this arc again: no other sum has changed */
-                work(s, net, i, (unsigned)s->keys[i][h], entries);
+                work(s, net, i, (unsigned)s->keys[i][h], entries + row * i);
         } else if (i >= net->n) {
             unknown++;
         } else if (s->phase[i]) {
@@ -195,8 +196,8 @@ static void run(struct state *s, const struct network *net, const uint8_t *steps
         } else {
             s->phase[i] = 1;
             send(s, i, i);
-            fill(s, i, i, 0, 0, entries);
-            work(s, net, i, least_key(s->keys[i]), entries);
+            fill(s, i, i, 0, 0, entries + row * i);
+            work(s, net, i, least_key(s->keys[i]), entries + row * i);
         }
     }
     for (unsigned i = 0; i < net->n; i++)
@@ -205,18 +206,21 @@ static void run(struct state *s, const struct network *net, const uint8_t *steps
 }
 
 uint32_t PLAIN(run)(
-    const uint8_t *bytes, size_t net_len, const uint8_t *steps, size_t steps_len, uint64_t counts[4], uint16_t entries[16][16][2])
+    const uint8_t *bytes, size_t net_len, const uint8_t *steps, size_t steps_len, uint64_t counts[4], uint16_t *entries, size_t entries_len)
 {
     struct network net;
     struct state s;
     uint32_t refusal = read_network(bytes, net_len, &net);
-    if (refusal == 0)
-        run(&s, &net, steps, steps_len, counts, entries);
-    return refusal;
+    if (refusal)
+        return refusal;
+    if (entries_len < 2 * (size_t)net.n * net.n) /* the run cannot be refused, so its room can be looked at before it */
+        return 13;
+    run(&s, &net, steps, steps_len, counts, entries);
+    return 0;
 }
 
 /* Writes node i's file; the answer as the header says. */
-static uint32_t put_file(const struct state *s, const struct network *net, unsigned i, uint16_t entries[16][16][2], uint8_t *room, size_t room_len)
+static uint32_t put_file(const struct state *s, const struct network *net, unsigned i, const uint16_t *row, uint8_t *room, size_t room_len)
 {
     unsigned stopped = s->phase[i] == 2, bits = 16 + 13 * (s->filled[i] - 1u), size = stopped ? bits / 8 + 1 : (bits + 7) / 8;
     unsigned held = 0, have = 0, before = 0, at = 2;
@@ -225,8 +229,8 @@ static uint32_t put_file(const struct state *s, const struct network *net, unsig
     room[0] = (uint8_t)(16 | i);
     room[1] = (uint8_t)((net->n - 1) << 4 | net->lmax);
     for (unsigned k = 1; k < s->filled[i]; k++) { /* the node's own entry was filled first */
-        unsigned y = s->order[i][k], distance = entries[i][y][0];
-        held = held << 13 | 1u << 12 | y << 8 | (entries[i][y][1] - 1u) << 4 | (distance - before);
+        unsigned y = s->order[i][k], distance = row[2 * y];
+        held = held << 13 | 1u << 12 | y << 8 | (row[2 * y + 1] - 1u) << 4 | (distance - before);
         before = distance;
         for (have += 13; have >= 8; have -= 8)
             room[at++] = (uint8_t)(held >> (have - 8));
@@ -242,7 +246,7 @@ uint32_t PLAIN(write)(
     struct network net;
     struct state s;
     uint64_t counts[4];
-    uint16_t entries[16][16][2];
+    uint16_t entries[2 * 16 * 16];
     uint32_t refusal = read_network(bytes, net_len, &net);
     if (refusal)
         return refusal;
@@ -251,5 +255,5 @@ uint32_t PLAIN(write)(
     run(&s, &net, steps, steps_len, counts, entries);
     if (s.phase[node - 1] == 0)
         return 12;
-    return put_file(&s, &net, node - 1, entries, room, room_len);
+    return put_file(&s, &net, node - 1, entries + 2 * net.n * (node - 1), room, room_len);
 }

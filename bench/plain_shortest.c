@@ -13,7 +13,7 @@ static unsigned nearest(const uint16_t *sum, unsigned open, unsigned n)
     return best;
 }
 
-static void from_node(const uint8_t *length, unsigned n, unsigned i, uint16_t row[16][2])
+static void from_node(const uint8_t *length, unsigned n, unsigned i, uint16_t *row)
 {
     uint16_t sum[16], hop[16] = {0};
     unsigned open = 0xFFFF;
@@ -30,12 +30,12 @@ static void from_node(const uint8_t *length, unsigned n, unsigned i, uint16_t ro
         }
     }
     for (unsigned y = 0; y < n; y++) {
-        row[y][0] = sum[y] == FAR ? ZAQ_UNREACHABLE : sum[y];
-        row[y][1] = sum[y] == FAR ? ZAQ_NO_HOP : hop[y];
+        row[2 * y] = sum[y] == FAR ? ZAQ_UNREACHABLE : sum[y];
+        row[2 * y + 1] = sum[y] == FAR ? ZAQ_NO_HOP : hop[y];
     }
 }
 
-uint32_t PLAIN(shortest)(const uint8_t *net, size_t net_len, uint16_t entries[16][16][2])
+uint32_t PLAIN(shortest)(const uint8_t *net, size_t net_len, uint16_t *entries)
 {
     uint8_t length[256] = {0};
     uint32_t refusal = PLAIN(check)(net, net_len);
@@ -48,6 +48,6 @@ uint32_t PLAIN(shortest)(const uint8_t *net, size_t net_len, uint16_t entries[16
         length[site] = k % 2 ? s[2] & 15 : s[1] >> 4;
     }
     for (unsigned i = 0; i < n; i++)
-        from_node(length, n, i, entries[i]);
+        from_node(length, n, i, entries + 2 * n * i);
     return 0;
 }

@@ -7,7 +7,7 @@
 
 enum { FILES = 64, OTHERS = 15, TRIALS = 20000 };
 
-/* What is asked for: a target with a record, one without, or any target of a file that is cut anywhere behind its header. */
+/* What is asked for: a target with a record, one without, or any target of a file that is cut anywhere after its header. */
 enum asked { KNOWN, ABSENT, CUT };
 
 struct read_case {

@@ -1,14 +1,13 @@
 #!/usr/bin/env bash
 # Builds the static library and every benchmark of this folder, and runs them one after the other: one table.
-# usage: run.sh    LIBRARY=file.a: measures that library instead of building one
+# usage: run.sh    ZAQ_LIBRARY=file.a: measures that library instead of building one; CC compiles for its processor
 set -eu
 cd "$(dirname "$0")/.."
 . tools/host.sh
-library=${LIBRARY:-target/staticlib/libzaqfinell.a}
-[ -n "${LIBRARY:-}" ] || bash tools/library.sh
+library=$(bash tools/library.sh)
 out=target/bench
 mkdir -p "$out"
-compile="$CC -std=c99 -Wall -Wextra -Werror"
+compile="$CC -std=c99 -Wall -Wextra -Wpedantic -Werror"
 
 # the competitor at both levels, the houses, and the outside tests' simulation, which says what is right
 parts=("$out/houses.o" "$out/reference.o" "$out/reference_run.o" "$out/in_header.o")
@@ -24,7 +23,7 @@ for source in reference reference_run in_header; do $compile -O2 -c "tests/outsi
 echo "the library against plain C, $("$CC" --version | head -n 1); load when it began: $(cut -d ' ' -f 1 /proc/loadavg)"
 echo "a ratio is the middle of 101 rounds, the middle half of them in brackets"
 programs='check run write read stack'
-if [ "$emulated" = yes ] && [ -z "${LIBRARY:-}" ]; then
+if [ "$emulated" = yes ] && [ -z "${ZAQ_LIBRARY:-}" ]; then
     echo 'the programs are emulated here: their times say nothing, and only the stack is measured'
     programs=stack
 fi

@@ -2,13 +2,12 @@
 #include "houses.h"
 #include "../tests/outside/in_header.h"
 #include <stdio.h>
-#include <string.h>
 
 enum { NET_ARCS = 240, REACH = 1 << 16, PATTERN = 0xA5, WHOLE_CALL = 8192, READ_CALL = 256, STATE_ARRAY = 5840 };
 
 static struct house house; /* a house of sixteen in which everybody hears everybody, with all the steps of a whole run */
-static uint8_t input[NET_ROOM + STEP_ROOM], text[ZAQ_HOUSE_TABLE_ROOM], file[ZAQ_FILE_ROOM], way[ZAQ_ROUTE_ROOM];
-static uint16_t table[ZAQ_TABLE_ROOM], entries[16][16][2];
+static uint8_t file[ZAQ_FILE_ROOM], way[ZAQ_ROUTE_ROOM];
+static uint16_t table[ZAQ_TABLE_ROOM], entries[ZAQ_ENTRIES_ROOM];
 static uint64_t counts[4];
 static zaq_arc arcs[NET_ARCS];
 static uint8_t packed[ZAQ_NETWORK_ROOM];
@@ -30,7 +29,7 @@ static void check_network(void)
 
 static void run(void)
 {
-    sink = zaq_run(RUN, counts, entries);
+    sink = zaq_run(RUN, counts, entries, ZAQ_ENTRIES_ROOM);
 }
 
 static void entry(void)
@@ -40,17 +39,12 @@ static void entry(void)
 
 static void route(void)
 {
-    sink = zaq_route(RUN, 1, 16, way);
+    sink = zaq_route(RUN, 1, 16, way, sizeof way);
 }
 
 static void write_table(void)
 {
     sink = zaq_write_table(RUN, 1, file, sizeof file);
-}
-
-static void house_table(void)
-{
-    sink = zaq_house_table(input, house.net_len + house.steps_len, text);
 }
 
 static void read_entry(void)
@@ -65,7 +59,7 @@ static void read_table(void)
 
 static void pack_network(void)
 {
-    sink = zaq_pack_network(LIST, packed);
+    sink = zaq_pack_network(LIST, packed, sizeof packed);
 }
 
 static void check_arcs(void)
@@ -75,7 +69,7 @@ static void check_arcs(void)
 
 static void run_arcs(void)
 {
-    sink = zaq_run_arcs(LIST_RUN, counts, entries);
+    sink = zaq_run_arcs(LIST_RUN, counts, entries, ZAQ_ENTRIES_ROOM);
 }
 
 static void entry_arcs(void)
@@ -85,7 +79,7 @@ static void entry_arcs(void)
 
 static void route_arcs(void)
 {
-    sink = zaq_route_arcs(LIST_RUN, 1, 16, way);
+    sink = zaq_route_arcs(LIST_RUN, 1, 16, way, sizeof way);
 }
 
 static void write_table_arcs(void)
@@ -104,7 +98,6 @@ static const struct {
     {"zaq_entry", entry, WHOLE_CALL},
     {"zaq_route", route, WHOLE_CALL},
     {"zaq_write_table", write_table, WHOLE_CALL},
-    {"zaq_house_table", house_table, WHOLE_CALL},
     {"zaq_read_entry", read_entry, READ_CALL},
     {"zaq_read_table", read_table, READ_CALL},
     {"zaq_pack_network", pack_network, 0},
@@ -137,8 +130,6 @@ int main(void)
 {
     build_net(&house, 240, 15);
     build_steps(&house, ANY_ARC, STEP_ROOM);
-    memcpy(input, house.net, house.net_len);
-    memcpy(input + house.net_len, house.steps, house.steps_len);
     struct ref_net net;
     ref_read_network(house.net, house.net_len, &net);
     arc_list(&net, arcs);

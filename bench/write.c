@@ -45,7 +45,7 @@ static void by_plain_O3(void)
 
 typedef uint32_t (*write_call)(const uint8_t *, size_t, const uint8_t *, size_t, uint32_t, uint8_t *, size_t);
 
-/* A wrong rival is none: the file's bytes, the bytes behind it, and a room that is one byte too short. */
+/* A wrong rival is none: the file's bytes, the bytes after it, and a room that is one byte too short. */
 static void must_agree(const struct house *h, uint32_t node, write_call call, const char *name)
 {
     size_t len = h->file_len[node - 1];

@@ -1,6 +1,5 @@
 /* An installer's question: which way does the sound go? A house as a list of arcs, a run to its end, and the routes of one device. */
 #include "zaqfinell.h"
-#include "zaqfinell_words.h"
 #include <stdio.h>
 
 enum { DEVICES = 5, LMAX = 7, MOST_STEPS = 4096 };
@@ -26,13 +25,13 @@ static int refused(const char *what, uint32_t answer)
 static int run_to_the_end(void)
 {
     uint64_t counts[4];
-    uint16_t entries[16][16][2];
+    uint16_t entries[2 * DEVICES * DEVICES];
     for (uint8_t device = 1; device <= DEVICES; device++)
         steps[steps_len++] = (uint8_t)(device - 1);
     do {
         for (uint8_t arc = 1; arc <= ARCS; arc++)
             steps[steps_len++] = (uint8_t)(arc + 15);
-        if (refused("the run", zaq_run_arcs(DEVICES, LMAX, arcs, ARCS, steps, steps_len, counts, entries)))
+        if (refused("the run", zaq_run_arcs(DEVICES, LMAX, arcs, ARCS, steps, steps_len, counts, entries, 2 * DEVICES * DEVICES)))
             return 0;
     } while (counts[3] < DEVICES && steps_len + ARCS <= MOST_STEPS);
     return counts[3] == DEVICES;
@@ -41,7 +40,7 @@ static int run_to_the_end(void)
 static void tell_route(uint32_t from, uint32_t to)
 {
     uint8_t way[ZAQ_ROUTE_ROOM];
-    uint32_t answer = zaq_route_arcs(DEVICES, LMAX, arcs, ARCS, steps, steps_len, from, to, way);
+    uint32_t answer = zaq_route_arcs(DEVICES, LMAX, arcs, ARCS, steps, steps_len, from, to, way, sizeof way);
     if (refused("the route", answer))
         return;
     if (zaq_distance(answer) == ZAQ_UNKNOWN) {

@@ -5,7 +5,6 @@
  * Writes node 1's table to FILE, reads it back, cuts FILE to its first KEEP bytes (4 if not given), and reads it again. */
 #define _POSIX_C_SOURCE 200809L /* truncate */
 #include "zaqfinell.h"
-#include "zaqfinell_words.h"
 #include <errno.h>
 #include <stdio.h>
 #include <stdlib.h>
@@ -14,7 +13,7 @@
 
 enum { DEVICES = 3, THIS_DEVICE = 1 };
 
-/* three devices, LMAX 4: 1 hears 2 at length 1, 2 hears 3 at 1, 1 hears 3 at 2, 3 hears 1 at 4 */
+/* three devices, LMAX 4: arcs 1 to 2 of length 1, 2 to 3 of 1, 1 to 3 of 2, 3 to 1 of 4 */
 static const uint8_t house[] = {0x12, 0x40, 0x04, 0x01, 0x11, 0x21, 0x02, 0x22, 0x04};
 enum { ARCS = 4, ROUNDS = 30 };
 
@@ -71,7 +70,7 @@ static long write_file(const char *path)
 /* One device's entry in plain words. */
 static void tell(unsigned device, uint32_t answer)
 {
-    if (zaq_refusal(answer) == 14)
+    if (zaq_refusal(answer) == ZAQ_FILE_TOO_SHORT)
         printf("  device %u: the file is too short to say anything (refusal 14)\n", device);
     else if (zaq_refusal(answer))
         printf("  device %u: the file is damaged (refusal %u)\n", device, (unsigned)zaq_refusal(answer));
@@ -121,7 +120,7 @@ static int cut(const char *path, long len, long keep)
         return 1;
     if (truncate(path, keep) != 0)
         return system_failed(path);
-    printf("Power was lost behind byte %ld.\n", keep);
+    printf("Power was lost after byte %ld.\n", keep);
     return read_file(path);
 }
 

@@ -1,10 +1,13 @@
 /* Zaqfinell: routing for houses of up to sixteen devices.
  *
- * Link with libzaqfinell.a. Each call takes numbers and buffers and gives one number. No call keeps anything, allocates anything or needs
- * to be set up, so calls may be made from several tasks at once. Lengths and contents may be anything: what is wrong is refused with its
- * number, and then nothing is written (zaq_house_table, whose text is its answer, writes the line). Each length is the number of elements
- * of the buffer before it: of bytes, of arcs, or of 16-bit numbers. Pointers are valid for their lengths and buffers do not overlap; one
- * of length 0 may be NULL. The library needs memcpy and memset, and nothing else.
+ * Link with libzaqfinell.a. Each call takes numbers and buffers and returns one number. No call keeps anything between calls, allocates
+ * memory or needs to be set up, so calls may be made from several tasks at once. Lengths and contents may be anything: what is wrong is
+ * refused with a number, and a refused call writes nothing. Each length counts the elements of the buffer before it: bytes, arcs, or
+ * 16-bit numbers. Pointers must be valid for their lengths, and buffers must not overlap; a buffer of length 0 may be NULL. The library
+ * needs memcpy and memset, and nothing else.
+ *
+ * A buffer that a call writes into is called a room. What a call writes stands at the beginning of the room, and the rest of the room is
+ * left unchanged. ZAQ_FILE_ROOM and the other sizes ending in _ROOM are always enough; a smaller room is too short for some houses.
  *
  * Stack, measured on x86-64: under 8 KiB for a call that runs steps, under 256 bytes for reading a file (docs/BENCHMARKS.md has each).
  */
@@ -19,59 +22,80 @@ extern "C" {
 
 /* ---- The words ----
  *
- * A house has n nodes, numbered 1 to n (at most 16), and one-way arcs (at most 240). An arc leads from its tail to its head: sound that
- * can go from the television to the kitchen is the arc {television, kitchen, length}. Routes and distances run from tail to head; the
+ * A house has n nodes, numbered 1 to n (at most 16), and one-way arcs (at most 240). An arc leads from its tail to its head: if sound can
+ * go from the television to the kitchen, that is the arc {television, kitchen, length}. Routes and distances run from tail to head; the
  * messages by which tables are found run the other way, so a tail hears what its head sends. A length is 1 to LMAX, the house's greatest
- * length, itself 1 to 15. Two devices on one cable are two arcs.
+ * length, which is itself 1 to 15. Two devices on one cable are two arcs.
  *
- * Network bytes: 4 bits each: version 1, n - 1, LMAX, 0; 8 bits: the arc count; then for each arc 4 bits each: tail - 1, head - 1, length;
- * zero bits to the byte's end. The most significant bit is first. zaq_pack_network makes them of a list, and each call that takes them
- * has a twin that takes a list (zaq_house_table has none).
+ * Network bytes: 4 bits each for version 1, n - 1, LMAX and 0; 8 bits for the arc count; then 4 bits each for tail - 1, head - 1 and length
+ * of every arc; zero bits to the end of the last byte. The most significant bit comes first. zaq_pack_network makes these bytes from a
+ * list, and each call that takes them has a twin that takes a list.
  *
  * A step is one byte. 0 to 15: start node byte + 1. 16 to 255: deliver the oldest undelivered message of arc byte - 15, numbered from 1 in
- * the network's order. A step that names no node or arc is counted unknown; a second start, or a delivery where nothing is undelivered,
- * is counted idle; neither changes anything. All others are taken. A message that is delivered to a node before its start is kept.
- * A list of steps may have any length; a longer list is a longer run, so to go on is to call again with the whole list. A node that has
- * stopped knows all that there is to know. While a node has not stopped some step can be taken, and no node sends more than
- * n * LMAX + n + 1 messages: start every node, then deliver on every arc in turn, until zaq_run counts as many stopped as there are.
+ * the network's order. A step that names no node or arc is counted as unknown. Starting a node again, or delivering on an arc where nothing
+ * is undelivered, is counted as idle. Neither changes anything. All other steps are taken. A message delivered to a node before its start
+ * is kept for it. A list of steps may have any length, and a longer list is a longer run: to continue a run, call again with the whole
+ * list. A node that has stopped knows everything there is to know. As long as some node has not stopped, some step can be taken, and no
+ * node sends more than (n - 1) * LMAX + n + 2 messages. So start every node, then deliver on every arc in turn until zaq_run counts n stopped
+ * nodes.
  *
- * An entry is node i's knowledge of a target: unknown, unreachable, or a distance with a first hop. It is right and final as soon as it
- * is not unknown, in every order of steps. Before its start a node knows nothing, itself neither; unreachable is said from its stop on.
+ * An entry is what a node knows of a target: unknown, unreachable, or a distance with a first hop. As soon as it is not unknown it is right
+ * and final, in every order of steps. Before it starts, a node knows nothing, not even itself. Entries become unreachable only once the
+ * node has stopped.
  *
- * A table file holds a record for each entry that a node has filled, its own left out, in the order of filling, and an end mark once the
- * node has stopped: 2 to 27 bytes. Cut short after the second byte or later, it gives the entries whose records stand whole, and unknown
- * for the rest: that is not told apart from the file of a node that has not stopped.
+ * A table file holds a record for each entry that a node has filled, except its own, in the order of filling, and an end mark once the node
+ * has stopped: 2 to 27 bytes. Cut short after its second byte or later, it still gives the entries whose records are whole, and unknown
+ * for the rest: what is told of it is what would be told of a node that has not stopped.
  */
 
-/* ---- Answers ----
+/* ---- Refusals ----
  *
- * Every answer (but that of zaq_house_table, a length) has the refusal in its low byte, 0 for none, and its values above it, all 0 on a
- * refusal. Where several refusals hold, a call gives the first in the order that its comment has them. zaqfinell_words.h has them as
- * texts.
- *
- *   1  network bytes under 3, or not the number of bytes that its arcs take
- *   2  network version not 1, or the fourth field not 0
- *   3  LMAX outside 1 to 15
- *   4  more than 240 arcs
- *   5  a tail or head outside 1 to n
- *   6  an arc from a node to itself
- *   7  an arc of length 0 or over LMAX
- *   8  two arcs with the same tail and head
- *   9  a padding bit of the network not 0
- *  10  no room in a sent list
- *  11  node or target outside 1 to n
- *  12  file wanted of a node not started
- *  13  what is to be written is longer than the room
- *  14  table file under 2 bytes
- *  15  table file version not 1
- *  16  own number over n, or LMAX 0
- *  17  a whole record of the file is wrong
- *  18  after the end mark, a bit not 0 or a further byte
- *  19  arc list: n outside 1 to 16
- *
- * 10 is proved never to happen. Of a network the order is 1 (under 3), 2, 3, 4, 1 (length), then arc by arc 5 to 8, then 9.
+ * Every answer has the refusal in its low byte, ZAQ_ACCEPTED for none, and its values above it; on a refusal the values are all 0. Where
+ * several refusals apply, a call gives the first in the order that its comment lists. This list has the number, the name and the words of
+ * each; the names are constants, and zaq_words gives the words. ZAQ_SENT_LIST_FULL would come with the run, after 11 and before 12 and 13;
+ * it is proved never to be given.
  */
+#define ZAQ_REFUSALS(X)                                                                                                                    \
+    X(1, ZAQ_WRONG_NETWORK_LENGTH, "network bytes under 3, or not the number of bytes that its arcs take")                                 \
+    X(2, ZAQ_WRONG_NETWORK_VERSION, "network version not 1, or the fourth field not 0")                                                    \
+    X(3, ZAQ_WRONG_LMAX, "LMAX outside 1 to 15")                                                                                           \
+    X(4, ZAQ_TOO_MANY_ARCS, "more than 240 arcs")                                                                                          \
+    X(5, ZAQ_WRONG_ARC_NODE, "a tail or head outside 1 to n")                                                                              \
+    X(6, ZAQ_ARC_TO_ITSELF, "an arc from a node to itself")                                                                                \
+    X(7, ZAQ_WRONG_ARC_LENGTH, "an arc of length 0 or over LMAX")                                                                          \
+    X(8, ZAQ_REPEATED_ARC, "two arcs with the same tail and head")                                                                         \
+    X(9, ZAQ_WRONG_NETWORK_PADDING, "a padding bit of the network not 0")                                                                  \
+    X(10, ZAQ_SENT_LIST_FULL, "no room in a sent list")                                                                                    \
+    X(11, ZAQ_NO_SUCH_NODE, "node or target outside 1 to n")                                                                               \
+    X(12, ZAQ_NOT_STARTED, "file wanted of a node not started")                                                                            \
+    X(13, ZAQ_ROOM_TOO_SHORT, "what is to be written is longer than the room")                                                             \
+    X(14, ZAQ_FILE_TOO_SHORT, "table file under 2 bytes")                                                                                  \
+    X(15, ZAQ_WRONG_FILE_VERSION, "table file version not 1")                                                                              \
+    X(16, ZAQ_WRONG_FILE_HEADER, "own number over n, or LMAX 0")                                                                           \
+    X(17, ZAQ_WRONG_RECORD, "a whole record of the file is wrong")                                                                         \
+    X(18, ZAQ_WRONG_FILE_END, "after the end mark, a bit not 0 or a further byte")                                                         \
+    X(19, ZAQ_WRONG_NODE_COUNT, "arc list: n outside 1 to 16")
+
+#define ZAQ_AS_CONSTANT(number, name, words) name = number,
+enum { ZAQ_REFUSALS(ZAQ_AS_CONSTANT) ZAQ_ACCEPTED = 0 };
+#undef ZAQ_AS_CONSTANT
+
+/* The refusal of any answer. */
 static inline uint32_t zaq_refusal(uint32_t answer) { return answer & 255; }
+
+/* A refusal's words, for programs that tell a person; only programs that call this hold the texts. */
+#define ZAQ_AS_CASE(number, name, words) case number: return words;
+static inline const char *zaq_words(uint32_t refusal)
+{
+    switch (refusal) {
+        ZAQ_REFUSALS(ZAQ_AS_CASE)
+    case ZAQ_ACCEPTED: return "no refusal";
+    default: return "not a refusal of this library";
+    }
+}
+#undef ZAQ_AS_CASE
+
+/* ---- Values of an answer ---- */
 
 /* The distance, 0 to 225, or one of the two marks. */
 enum { ZAQ_UNKNOWN = 65535, ZAQ_UNREACHABLE = 65534 };
@@ -84,58 +108,62 @@ static inline uint32_t zaq_hop(uint32_t answer) { return answer >> 8 & 255; }
 /* How many nodes a route passes. */
 static inline uint32_t zaq_passed(uint32_t answer) { return answer >> 8 & 255; }
 
-/* How many numbers a call wrote into the room (of a route: zaq_passed). */
+/* How many numbers a call wrote into the room (for a route, use zaq_passed). */
 static inline uint32_t zaq_written(uint32_t answer) { return answer >> 8 & 65535; }
 
-/* ---- The firmware's three calls ---- */
+/* ---- The firmware's three calls ----
+ *
+ * "The network's" refusals are, in this order: 1 if there are fewer than 3 bytes, 2, 3, 4, 1 for any other wrong length, then arc by arc
+ * 5, 6, 7 and 8, then 9.
+ */
 
-/* Checks a network's bytes: the answer is 0 or the refusal. Refusals: the network's. */
+/* Checks a network's bytes: the answer is ZAQ_ACCEPTED or the refusal. Refusals: the network's. */
 uint32_t zaq_check_network(const uint8_t *net, size_t net_len);
 
-/* Runs the steps over the network and writes the table file of one node at the room's start: zaq_written bytes. The room's other bytes
- * stay. Refusals: the network's, 11, 12, 13; a room of ZAQ_FILE_ROOM is always enough.
- */
+/* Runs the steps over the network and writes the table file of one node: zaq_written bytes. Refusals: the network's, 11, 12, 13. */
 enum { ZAQ_FILE_ROOM = 27 };
 uint32_t zaq_write_table(
     const uint8_t *net, size_t net_len, const uint8_t *steps, size_t steps_len, uint32_t node, uint8_t *room, size_t room_len);
 
-/* Reads one entry from a table file, whole or cut: zaq_distance and zaq_hop. file_len is the file's length, not the room's: bytes behind
- * the end mark are refused. Refusals: 14, 15, 16, 17 record by record, 18, then 11 for the target.
+/* Reads one entry from a table file, whole or cut: zaq_distance and zaq_hop. file_len is the length of the file, not of the room that holds
+ * it: bytes after the end mark are refused. Refusals: 14, 15, 16, 17 record by record, 18, then 11 for the target.
  */
 uint32_t zaq_read_entry(const uint8_t *file, size_t file_len, uint32_t target);
 
 /* ---- For benches, service desks and installers ---- */
 
-/* Reads all entries of a table file of n nodes in one pass: zaq_written = 2 * n numbers, for each target from 1 to n its distance or mark,
- * then its first hop. Refusals: 14 to 18 as above, then 13; a room of ZAQ_TABLE_ROOM numbers is always enough.
+/* Reads all entries of a table file of n nodes: zaq_written = 2 * n numbers, for each target from 1 to n its distance or mark, then its
+ * first hop. Refusals: 14, 15, 16, 17 record by record, 18, then 13.
  */
 enum { ZAQ_TABLE_ROOM = 32 };
 uint32_t zaq_read_table(const uint8_t *file, size_t file_len, uint16_t *room, size_t room_len);
 
-/* The whole outcome of a run; the answer is 0 or the refusal. counts: how many steps were taken, idle, unknown, and how many nodes have
- * stopped. entries[i - 1][y - 1]: node i's distance to y, or a mark, and its first hop, for i and y from 1 to n; the others stay.
- * Refusals: the network's.
+/* The whole outcome of a run; the answer is ZAQ_ACCEPTED or the refusal. counts: how many steps were taken, idle and unknown, and how many
+ * nodes have stopped. entries: 2 * n * n numbers, row by row: node 1's distance or mark and first hop for each target from 1 to n, then
+ * node 2's, and so on. Node i's distance to y is entries[2 * ((i - 1) * n + y - 1)], and the first hop is the number after it.
+ * Refusals: the network's, then 13 if entries_len is less than 2 * n * n.
  */
+enum { ZAQ_ENTRIES_ROOM = 512 };
 uint32_t zaq_run(
-    const uint8_t *net, size_t net_len, const uint8_t *steps, size_t steps_len, uint64_t counts[4], uint16_t entries[16][16][2]);
+    const uint8_t *net, size_t net_len, const uint8_t *steps, size_t steps_len, uint64_t counts[4], uint16_t *entries, size_t entries_len);
 
-/* One entry after a run: the node's for the target, zaq_distance and zaq_hop. Refusals: the network's, 11. */
+/* One entry after a run, the node's for the target: zaq_distance and zaq_hop. Refusals: the network's, 11. */
 uint32_t zaq_entry(const uint8_t *net, size_t net_len, const uint8_t *steps, size_t steps_len, uint32_t node, uint32_t target);
 
-/* The route from node to target after a run. zaq_distance is the distance or a mark; the room begins with the zaq_passed nodes that
- * come after `node` on the way, target last, and its other bytes stay. None are passed beside a mark, and none where node is target.
- * Refusals: the network's, 11.
+/* The route from node to target after a run: zaq_distance is the distance or a mark, and the room gets the zaq_passed nodes that come
+ * after `node` on the way, the target last. No node is passed beside a mark, and none where node is target. Refusals: the network's, 11,
+ * then 13 if the room is shorter than the nodes passed.
  */
-enum { ZAQ_ROUTE_ROOM = 16 };
+enum { ZAQ_ROUTE_ROOM = 15 };
 uint32_t zaq_route(
-    const uint8_t *net, size_t net_len, const uint8_t *steps, size_t steps_len, uint32_t node, uint32_t target,
-    uint8_t room[ZAQ_ROUTE_ROOM]);
+    const uint8_t *net, size_t net_len, const uint8_t *steps, size_t steps_len, uint32_t node, uint32_t target, uint8_t *room,
+    size_t room_len);
 
 /* ---- A network handed over as a list of arcs ----
  *
- * n, LMAX and the arcs stand in the place of the network's bytes, and steps number the arcs as the list does. All else is as in the call
- * without `_arcs`: what it answers, what it writes, what it refuses, but that the network's refusals are those of a list: 19, 3, 4, then
- * arc by arc 5 to 8. The numbers are bytes: check a wider one before it is cut to 8 bits.
+ * n, LMAX and the arcs take the place of the network's bytes, and steps number the arcs as the list does. Everything else is as in the call
+ * without `_arcs`: what it answers, writes and refuses, except that the network's refusals are those of a list: 19, 3, 4, then arc by arc
+ * 5, 6, 7 and 8. The numbers are bytes: check a wider number before you cut it to 8 bits.
  */
 typedef struct zaq_arc {
     uint8_t tail;
@@ -148,25 +176,17 @@ uint32_t zaq_write_table_arcs(
     size_t room_len);
 uint32_t zaq_run_arcs(
     uint8_t n, uint8_t lmax, const zaq_arc *arcs, size_t arcs_len, const uint8_t *steps, size_t steps_len, uint64_t counts[4],
-    uint16_t entries[16][16][2]);
+    uint16_t *entries, size_t entries_len);
 uint32_t zaq_entry_arcs(
     uint8_t n, uint8_t lmax, const zaq_arc *arcs, size_t arcs_len, const uint8_t *steps, size_t steps_len, uint32_t node,
     uint32_t target);
 uint32_t zaq_route_arcs(
     uint8_t n, uint8_t lmax, const zaq_arc *arcs, size_t arcs_len, const uint8_t *steps, size_t steps_len, uint32_t node,
-    uint32_t target, uint8_t room[ZAQ_ROUTE_ROOM]);
+    uint32_t target, uint8_t *room, size_t room_len);
 
-/* The list as network bytes, at the room's start: zaq_written of them, which the calls without `_arcs` take. The room's other bytes stay.
- * Refusals: the list's.
- */
+/* Writes the list as network bytes, zaq_written of them, which the calls without `_arcs` take. Refusals: the list's, then 13. */
 enum { ZAQ_NETWORK_ROOM = 363 };
-uint32_t zaq_pack_network(uint8_t n, uint8_t lmax, const zaq_arc *arcs, size_t arcs_len, uint8_t room[ZAQ_NETWORK_ROOM]);
-
-/* What the program "House table" writes for an input, which is a network's bytes and then step bytes. The text stands at the beginning
- * of the room, and its length is the answer; the room's other bytes stay. A refused input gives the line "refused N".
- */
-enum { ZAQ_HOUSE_TABLE_ROOM = 8192 };
-size_t zaq_house_table(const uint8_t *input, size_t input_len, uint8_t room[ZAQ_HOUSE_TABLE_ROOM]);
+uint32_t zaq_pack_network(uint8_t n, uint8_t lmax, const zaq_arc *arcs, size_t arcs_len, uint8_t *room, size_t room_len);
 
 #ifdef __cplusplus
 }

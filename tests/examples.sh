@@ -1,14 +1,13 @@
 #!/usr/bin/env bash
 # The C programs of examples/, compiled without a warning against the header and the static library, and run: what table_file prints is
 # document 01's network Q, P4 and P7 to P9. Then once more under valgrind or, where there is none, with the compiler's sanitizers.
-# usage: examples.sh [LIBRARY]    a library other than the one that is built here
 . "$(dirname "$0")/verdict.sh"
 
 folder=target/examples
 mkdir -p "$folder"
 rm -rf "${folder:?}"/*
-library=${1:-target/staticlib/libzaqfinell.a}
-if [ $# -eq 0 ]; then verdict 'the static library is built' bash tools/library.sh; fi
+library=$(bash tools/library.sh)
+verdict 'the static library is built' test -n "$library"
 
 build() { # build FOLDER FLAG..: both programs
     local into=$1 program
@@ -39,7 +38,7 @@ said() {
 
 expected() { # expected KEEP
     said 6
-    echo "Power was lost behind byte $1."
+    echo "Power was lost after byte $1."
     said "$1"
 }
 

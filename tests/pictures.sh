@@ -18,7 +18,9 @@ well_formed() { # well_formed FILE: by xmllint where there is one, else as many 
 
 marks() { # marks FILE: how many routes are solid, nodes dashed, nodes crossed; each stands on a line of its own
     local mark
-    for mark in 'class="route"' 'class="node unknown"><circle class="rim"' 'class="node unreachable">.*class="cross"'; do grep -c "$mark" "$1"; done | xargs
+    for mark in 'class="route"' 'class="node unknown"><circle class="rim"' 'class="node unreachable">.*class="cross"'; do
+        grep -c "$mark" "$1"
+    done | xargs
 }
 
 apart() { # apart FILE: no two lengths stand on each other
@@ -130,13 +132,25 @@ bad 2 'No such file' "$work/q" "$work/p4" "$work/nothing"
 bad 2 'directory' "$work" "$work/p4"
 bad 2 'usage' "$work/q"
 
-# the words are the header's
-number=0
-while read -r words; do
-    if ((number > 0)); then verdict "the words for $number are not the header's" grep -qF " $number  $words" include/zaqfinell.h; fi
-    number=$((number + 1))
-done < <(sed -nE 's/^        "(.*)",$/\1/p' include/zaqfinell_words.h)
-verdict 'there are words for 1 to 19' test "$number" = 20
+# node_file says what is wrong, too
+draw=target/tools/node_file
+verdict 'node_file is built' test -x "$draw"
+printf '\x00' > "$work/start"
+bad 2 usage
+bad 2 usage "$work/q" "$work/start"
+bad 2 'No such file' "$work/nothing" "$work/start" 1
+bad 2 'No such file' "$work/q" "$work/nothing" 1
+bad 2 'directory' "$work" "$work/start" 1
+bad 1 'refused 1: network bytes under 3' "$work/start" "$work/start" 1
+bad 1 'refused 12: file wanted of a node not started' "$work/q" "$work/start" 2
+for number in 0 4 17 256 257 -1 x 1x '' 99999999999999999999; do
+    bad 1 'refused 11: node or target outside 1 to n' "$work/q" "$work/start" "$number"
+done
+head -c 1048577 /dev/zero > "$work/too_many"
+bad 2 'too large' "$work/q" "$work/too_many" 1
+verdict 'node_file says how it is used' grep -q '^usage: node_file NETWORK' <("$draw" --help)
+verdict 'node_file writes the file of a node that has just started' cmp -s <("$draw" "$work/q" "$work/start" 1) <(bytes 1024)
+draw=target/tools/draw_house
 
 # names may be anything
 printf '<&>"\n\xff\xc3\x28\x01\xed\xa0\x80\n%0200d' 7 > "$work/names"

@@ -12,7 +12,7 @@ verdict() { # verdict TEXT TEST..: one check, told where it fails
         passed=$((passed + 1))
     else
         failed=$((failed + 1))
-        echo "$0: $text"
+        echo "$0: $text" >&2 # a test's own output may go elsewhere
     fi
 }
 

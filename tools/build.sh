@@ -1,17 +1,15 @@
 #!/usr/bin/env bash
 # Builds the tools that are C programs into target/tools, linked with the library: build.sh [TOOL..]
-# ZAQ_LIBRARY names a static library to link instead of the one that is proved and built here.
 set -eu
 cd "$(dirname "$0")/.."
 . tools/host.sh
-library=${ZAQ_LIBRARY:-target/staticlib/libzaqfinell.a}
-[ -n "${ZAQ_LIBRARY:-}" ] || bash tools/library.sh
+library=$(bash tools/library.sh)
 mkdir -p target/tools
 
 build() { # build NAME SOURCE..
     local name=$1
     shift
-    "$CC" -std=c99 -Wall -Wextra -Werror -O2 -Iinclude "$@" "$library" -lm -o "target/tools/$name"
+    "$CC" -std=c99 -Wall -Wextra -Wpedantic -Werror -O2 -Iinclude "$@" "$library" -lm -o "target/tools/$name"
 }
 
 for tool in "${@:-draw_house}"; do

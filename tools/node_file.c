@@ -1,5 +1,4 @@
 /* node_file: runs steps over a network and writes the table file of one node to standard output. */
-#include "../include/zaqfinell_words.h"
 #include "zaqfinell.h"
 #include <errno.h>
 #include <stdio.h>
@@ -26,20 +25,37 @@ static int read_file(const char *path, uint8_t *room, size_t *len)
     return bad;
 }
 
+static const char usage[] =
+    "usage: node_file NETWORK STEPS NUMBER > TABLE\n"
+    "  NETWORK  a file with a network's bytes\n"
+    "  STEPS    a file with step bytes\n"
+    "  NUMBER   the node whose table file is written\n"
+    "exit status: 0 written, 1 refused by the library, 2 not called or not fed right\n";
+
+/* A node's number; 0, which no node has, for a word that is none. */
+static uint32_t node_number(const char *word)
+{
+    char *end;
+    long node = strtol(word, &end, 10);
+    return *end != '\0' || node < 1 || node > 255 ? 0 : (uint32_t)node;
+}
+
 int main(int count, char **word)
 {
     static uint8_t net[ROOM], steps[ROOM];
     uint8_t room[ZAQ_FILE_ROOM];
     size_t net_len, steps_len;
+    if (count == 2 && strcmp(word[1], "--help") == 0) {
+        fputs(usage, stdout);
+        return 0;
+    }
     if (count != 4) {
-        fputs("usage: node_file NETWORK STEPS NUMBER > TABLE\n  the table file of node NUMBER after the steps\n", stderr);
+        fputs(usage, stderr);
         return NO_INPUT;
     }
     if (read_file(word[1], net, &net_len) || read_file(word[2], steps, &steps_len))
         return NO_INPUT;
-    /* what is not a number is 0, which no node has */
-    long node = strtol(word[3], NULL, 10);
-    uint32_t answer = zaq_write_table(net, net_len, steps, steps_len, node < 1 || node > 255 ? 0 : (uint32_t)node, room, sizeof room);
+    uint32_t answer = zaq_write_table(net, net_len, steps, steps_len, node_number(word[3]), room, sizeof room);
     if (zaq_refusal(answer)) {
         fprintf(stderr, "node_file: refused %u: %s\n", (unsigned)zaq_refusal(answer), zaq_words(zaq_refusal(answer)));
         return REFUSED;

@@ -1,5 +1,6 @@
 #!/usr/bin/env bash
-# The long check: programs that others wrote look at the method (spin) and at the library's answers (networkx). Some minutes.
+# The long check: programs that others wrote look at the method (spin) and at the library's answers (networkx), and the outside tests are
+# shown to notice planted mistakes (tests/planted). Some minutes.
 # usage: run.sh [HOUSES [SEED]]     what is missing is told and counts as failed: nothing is claimed that was not run
 set -u
 cd "$(dirname "$0")/../.." || exit 1
@@ -24,7 +25,7 @@ part() { # part NAME COMMAND..: runs the command and adds its closing line; its 
     line=${line#*, }
     failed=$((failed + ${line%% *}))
     if [ "$status" -ne 0 ] && [ "${line%% *}" -eq 0 ]; then failed=$((failed + 1)); fi
-    results+=("$name: exit status $status, $((SECONDS - began)) s; $(grep -E '^(spin|networkx|liars): ' "$work/log" | tail -n 1)")
+    results+=("$name: exit status $status, $((SECONDS - began)) s; $(grep -E '^(spin|networkx|liars|planted): ' "$work/log" | tail -n 1)")
 }
 
 missing() { # missing NAME WHAT HOW
@@ -82,6 +83,8 @@ else
     part networkx "$python" tests/long/networkx_check.py "$house_table" "$work/networkx" "$@"
     part 'wrong programs' liars
 fi
+
+part 'planted mistakes' bash tests/planted/run.sh
 
 echo "== versions"
 if [ ${#versions[@]} -gt 0 ]; then printf '%s\n' "${versions[@]}"; fi

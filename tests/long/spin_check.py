@@ -101,7 +101,7 @@ def number(text, pattern):
 
 
 def is_clean(out):
-    """No error, the search came to its end, and the check behind the last step was reached."""
+    """No error, the search came to its end, and the check after the last step was reached."""
     return (
         number(out, r"errors: (\d+)") == 0
         and "max search depth too small" not in out

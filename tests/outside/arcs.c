@@ -2,14 +2,14 @@
 #include "test.h"
 #include <string.h>
 
-enum { MOST_LISTED = 66000 };
+enum { MOST_LISTED = 66000, MOST_ROOM = 400 };
 
 static zaq_arc list[MOST_LISTED];
 static struct ref_arc plain[MOST_LISTED];
 static struct ref_net net;
 
 static struct room {
-    uint8_t before[8], bytes[ZAQ_NETWORK_ROOM], behind[8];
+    uint8_t before[8], bytes[MOST_ROOM], after[8];
 } got, want;
 
 /* The list packed by the library and by the reference; the refusal. */
@@ -20,13 +20,19 @@ static unsigned same_packing(uint8_t n, uint8_t lmax, size_t count, const char *
     for (size_t k = 0; k < count; k++)
         plain[k] = (struct ref_arc){list[k].tail, list[k].head, list[k].length};
     unsigned refusal = ref_read_arc_list(n, lmax, plain, count, &net);
-    uint32_t right = refusal ? refusal : (uint32_t)ref_network_bytes(&net, want.bytes) << 8;
+    uint8_t packed[MOST_NETWORK];
+    size_t len = refusal ? 0 : ref_network_bytes(&net, packed);
+    size_t size = random_below(2) ? ZAQ_NETWORK_ROOM : random_room(len, MOST_ROOM);
+    uint32_t right = refusal ? refusal : size < len ? 13 : (uint32_t)len << 8;
+    if (right > 255)
+        memcpy(want.bytes, packed, len);
+    about_number("room", (uint32_t)size);
     about_number("n", n);
     about_number("LMAX", lmax);
     about("arcs", (const uint8_t *)list, count * sizeof *list);
     const zaq_arc *lent = (const zaq_arc *)at_edge(0, (const uint8_t *)list, count * sizeof *list);
     same_answer(CHECK_ARCS, zaq_check_arcs(n, lmax, lent, count), refusal, what);
-    same_answer(PACK, zaq_pack_network(n, lmax, lent, count, got.bytes), right, what);
+    same_answer(PACK, zaq_pack_network(n, lmax, lent, count, got.bytes, size), right, what);
     check(memcmp(&got, &want, sizeof got) == 0, "the room holds the network's bytes and nothing else");
     return refusal;
 }
@@ -36,20 +42,19 @@ static void runs_the_same(unsigned kind)
 {
     static uint8_t steps[1000];
     static struct ref_run run;
-    uint64_t counts[4];
-    uint16_t entries[16][16][2];
-    size_t len = zaq_written(zaq_pack_network((uint8_t)net.n, (uint8_t)net.lmax, list, net.arcs, got.bytes));
+    uint64_t counts[4], right_counts[4];
+    uint16_t entries[ZAQ_ENTRIES_ROOM], right_entries[ZAQ_ENTRIES_ROOM];
+    uint32_t packed = zaq_pack_network((uint8_t)net.n, (uint8_t)net.lmax, list, net.arcs, got.bytes, sizeof got.bytes);
+    size_t len = zaq_written(packed);
     random_steps(&net, kind, steps, sizeof steps);
     ref_run_steps(&run, &net, steps, sizeof steps);
+    put_outcome(&run, right_counts, right_entries);
+    same_answer(PACK, packed, (uint32_t)(3 + (12 * (size_t)net.arcs + 7) / 8) << 8, "a list that is accepted is packed");
     same_answer(CHECK, zaq_check_network(got.bytes, len), 0, "a packed network is accepted");
-    same_answer(RUN, zaq_run(got.bytes, len, steps, sizeof steps, counts, entries), 0, "a packed network runs");
-    int same = counts[0] == run.taken && counts[1] == run.idle && counts[2] == run.unknown && counts[3] == ref_stopped(&run);
-    for (unsigned i = 1; i <= net.n; i++)
-        for (unsigned y = 1; y <= net.n; y++) {
-            struct ref_entry e = ref_entry_of(&run, i, y);
-            same &= entries[i - 1][y - 1][0] == header_distance(e) && entries[i - 1][y - 1][1] == header_hop(e);
-        }
-    check(same, "a packed network runs as its list says");
+    uint32_t answer = zaq_run(got.bytes, len, steps, sizeof steps, counts, entries, ZAQ_ENTRIES_ROOM);
+    same_answer(RUN, answer, 0, "a packed network runs");
+    check(memcmp(counts, right_counts, sizeof counts) == 0, "a packed network runs as its list says: the counts");
+    check(memcmp(entries, right_entries, 4 * net.n * net.n) == 0, "a packed network runs as its list says: the entries");
 }
 
 /* A fault of refusal `number` in the list, if it has a place for it. */
@@ -77,7 +82,7 @@ static void spoil(uint8_t *n, uint8_t *lmax, size_t *count, unsigned number)
 
 static struct rooms {
     uint64_t counts[4];
-    uint16_t entries[16][16][2];
+    uint16_t entries[ZAQ_ENTRIES_ROOM];
     uint8_t route[ZAQ_ROUTE_ROOM], file[ZAQ_FILE_ROOM];
 } rooms, kept;
 
@@ -95,17 +100,23 @@ static void refused_everywhere(uint8_t n, uint8_t lmax, size_t count, unsigned r
     about_number("target", target);
     const zaq_arc *lent = (const zaq_arc *)at_edge(0, (const uint8_t *)list, count * sizeof *list);
     const uint8_t *lent_steps = at_edge(1, steps, sizeof steps);
-    same_answer(RUN_ARCS, zaq_run_arcs(n, lmax, lent, count, lent_steps, sizeof steps, rooms.counts, rooms.entries), refusal, "a refused list is not run");
-    same_answer(ENTRY_ARCS, zaq_entry_arcs(n, lmax, lent, count, lent_steps, sizeof steps, node, target), refusal, "a refused list has no entry");
-    same_answer(ROUTE_ARCS, zaq_route_arcs(n, lmax, lent, count, lent_steps, sizeof steps, node, target, rooms.route), refusal, "a refused list has no route");
-    same_answer(WRITE_ARCS, zaq_write_table_arcs(n, lmax, lent, count, lent_steps, sizeof steps, node, rooms.file, random_below(28)), refusal, "a refused list has no file");
+    size_t size = random_below(2) ? ZAQ_ENTRIES_ROOM : random_below(3);
+    uint32_t answer = zaq_run_arcs(n, lmax, lent, count, lent_steps, sizeof steps, rooms.counts, rooms.entries, size);
+    same_answer(RUN_ARCS, answer, refusal, "a refused list is not run");
+    answer = zaq_entry_arcs(n, lmax, lent, count, lent_steps, sizeof steps, node, target);
+    same_answer(ENTRY_ARCS, answer, refusal, "a refused list has no entry");
+    size = random_below(ZAQ_ROUTE_ROOM + 1);
+    answer = zaq_route_arcs(n, lmax, lent, count, lent_steps, sizeof steps, node, target, rooms.route, size);
+    same_answer(ROUTE_ARCS, answer, refusal, "a refused list has no route");
+    answer = zaq_write_table_arcs(n, lmax, lent, count, lent_steps, sizeof steps, node, rooms.file, random_below(28));
+    same_answer(WRITE_ARCS, answer, refusal, "a refused list has no file");
     check(memcmp(&rooms, &kept, sizeof rooms) == 0, "a refused list changes no room");
 }
 
 static void faults(void)
 {
     static const unsigned numbers[] = {19, 3, 4, 5, 6, 7, 8};
-    for (unsigned round = 0; round < 30000; round++) {
+    for (unsigned round = 0; round < rounds(30000); round++) {
         random_network(&net);
         uint8_t n = (uint8_t)net.n, lmax = (uint8_t)net.lmax;
         size_t count = arc_list(&net, list);
@@ -122,12 +133,12 @@ static void faults(void)
 static void every_number(void)
 {
     for (unsigned n = 0; n < 256; n++)
-        for (unsigned lmax = 0; lmax < 256; lmax++) {
+        for (unsigned lmax = 0; lmax < 256; lmax += is_quick() ? 1 + random_below(20) : 1) {
             list[0] = (zaq_arc){1, 2, 1};
             same_packing((uint8_t)n, (uint8_t)lmax, 0, "every n and LMAX, no arc");
             same_packing((uint8_t)n, (uint8_t)lmax, 1, "every n and LMAX, one arc");
         }
-    for (unsigned k = 0; k < 1u << 18; k++) {
+    for (unsigned k = 0; k < rounds(1u << 18); k++) {
         static const uint8_t tried[] = {0, 1, 2, 3, 4, 5, 8, 15, 16, 17, 18, 31, 32, 33, 255};
         list[0] = (zaq_arc){tried[k % 15], tried[k / 15 % 15], tried[k / 225 % 15]};
         same_packing(tried[1 + k / 3375 % 8], tried[1 + k / 27000 % 7], 1, "every number in one arc");
@@ -152,7 +163,7 @@ static void too_long(void)
 
 void test_arcs(void)
 {
-    for (unsigned round = 0; round < 6000; round++) {
+    for (unsigned round = 0; round < rounds(6000); round++) {
         random_network(&net);
         unsigned refusal = same_packing((uint8_t)net.n, (uint8_t)net.lmax, arc_list(&net, list), "an accepted list");
         check(refusal == 0, "document 01 accepts it");

@@ -2,13 +2,15 @@
 #include "test.h"
 #include <string.h>
 
+enum { MOST_ROOM = 24 };
+
 static struct ref_net net;
 static struct ref_run run;
 static uint8_t bytes[512], steps[MOST_STEPS];
 static size_t net_len, step_count;
 
 static struct room {
-    uint8_t before[8], nodes[ZAQ_ROUTE_ROOM], behind[8];
+    uint8_t before[8], nodes[MOST_ROOM], after[8];
 } got, want;
 
 static void run_with(unsigned kind, size_t count)
@@ -28,19 +30,6 @@ static void random_run(unsigned kind)
 static int is_node(uint32_t asked)
 {
     return asked >= 1 && asked <= net.n;
-}
-
-/* The nodes behind `node` that first hops pass; how many. */
-static unsigned simulated_route(unsigned node, unsigned target, uint8_t *nodes)
-{
-    unsigned count = 0;
-    if (ref_entry_of(&run, node, target).distance < 0)
-        return 0;
-    for (unsigned at = node; at != target && count < MOST_NODES;) {
-        at = ref_entry_of(&run, at, target).hop;
-        nodes[count++] = (uint8_t)at;
-    }
-    return count;
 }
 
 /* By the network alone: arcs join the nodes passed one after the other, and their lengths add up to the distance. */
@@ -69,12 +58,12 @@ static uint32_t ask_entry(enum call call, uint32_t node, uint32_t target)
     return zaq_entry_arcs((uint8_t)net.n, (uint8_t)net.lmax, list_at_edge(&net), net.arcs, lent, step_count, node, target);
 }
 
-static uint32_t ask_route(enum call call, uint32_t node, uint32_t target)
+static uint32_t ask_route(enum call call, uint32_t node, uint32_t target, size_t size)
 {
     const uint8_t *lent = at_edge(1, steps, step_count);
     if (call == ROUTE)
-        return zaq_route(at_edge(0, bytes, net_len), net_len, lent, step_count, node, target, got.nodes);
-    return zaq_route_arcs((uint8_t)net.n, (uint8_t)net.lmax, list_at_edge(&net), net.arcs, lent, step_count, node, target, got.nodes);
+        return zaq_route(at_edge(0, bytes, net_len), net_len, lent, step_count, node, target, got.nodes, size);
+    return zaq_route_arcs((uint8_t)net.n, (uint8_t)net.lmax, list_at_edge(&net), net.arcs, lent, step_count, node, target, got.nodes, size);
 }
 
 static void same_entry(enum call call, uint32_t node, uint32_t target, unsigned refusal)
@@ -85,17 +74,21 @@ static void same_entry(enum call call, uint32_t node, uint32_t target, unsigned 
 
 static void same_route(enum call call, uint32_t node, uint32_t target, unsigned refusal)
 {
+    uint8_t passed[MOST_NODES];
+    unsigned count = refusal ? 0 : simulated_route(&run, node, target, passed);
+    size_t size = random_below(2) ? ZAQ_ROUTE_ROOM : random_room(count, MOST_ROOM);
     memset(&got, (int)random_below(256), sizeof got);
     memcpy(&want, &got, sizeof got);
-    uint32_t right = refusal;
-    if (refusal == 0) {
-        unsigned count = simulated_route(node, target, want.nodes);
+    uint32_t right = refusal ? refusal : 13;
+    if (refusal == 0 && count <= size) {
+        memcpy(want.nodes, passed, count);
         right = (uint32_t)header_distance(ref_entry_of(&run, node, target)) << 16 | count << 8;
     }
-    uint32_t answer = ask_route(call, node, target);
+    about_number("room", (uint32_t)size);
+    uint32_t answer = ask_route(call, node, target, size);
     same_answer(call, answer, right, "one route after a run");
     check(memcmp(&got, &want, sizeof got) == 0, "the room holds the nodes passed and nothing else");
-    if (refusal == 0 && zaq_distance(answer) < ZAQ_UNREACHABLE && zaq_passed(answer) <= ZAQ_ROUTE_ROOM)
+    if (right > 255 && zaq_distance(answer) < ZAQ_UNREACHABLE && zaq_passed(answer) <= ZAQ_ROUTE_ROOM)
         check(joined(node, target, got.nodes, zaq_passed(answer), zaq_distance(answer)), "arcs join the nodes passed");
 }
 
@@ -138,7 +131,7 @@ static void refused_networks(void)
 {
     struct ref_net dummy;
     uint32_t asked[MOST_ASKED];
-    for (unsigned round = 0; round < 8000; round++) {
+    for (unsigned round = 0; round < rounds(8000); round++) {
         random_run(round % STEP_KINDS);
         net_len = spoil_somehow(bytes, net_len);
         unsigned refusal = ref_read_network(bytes, net_len, &dummy);
@@ -150,12 +143,12 @@ static void refused_networks(void)
 
 void test_entries(void)
 {
-    for (unsigned round = 0; round < 240; round++) {
+    for (unsigned round = 0; round < rounds(240); round++) {
         random_run(round % STEP_KINDS);
         every_pair();
     }
     farthest();
-    for (unsigned round = 0; round < 15000; round++) {
+    for (unsigned round = 0; round < rounds(15000); round++) {
         random_run(round % STEP_KINDS);
         both(1 + random_below(net.n), 1 + random_below(net.n), 0);
     }

@@ -25,7 +25,7 @@ static void entry_is(unsigned node, unsigned target, unsigned distance, unsigned
 {
     uint8_t room[ZAQ_ROUTE_ROOM];
     same_answer(ENTRY, zaq_entry(Q, sizeof Q, steps, TO_THE_END, node, target), entry(distance, hop), what);
-    uint32_t route = zaq_route(Q, sizeof Q, steps, TO_THE_END, node, target, room);
+    uint32_t route = zaq_route(Q, sizeof Q, steps, TO_THE_END, node, target, room, sizeof room);
     check(zaq_refusal(route) == 0 && zaq_distance(route) == distance && room[0] == hop && room[zaq_passed(route) - 1] == target, what);
 }
 
@@ -100,29 +100,96 @@ static void unmarked(void)
     same_answer(CHECK, zaq_check_network(Q, sizeof Q), 0, "arc length 4 in Q");
     same_answer(CHECK, zaq_check_network(longer, sizeof longer), 7, "arc length 5 in Q");
     memcpy(arcs, Q_arcs, sizeof arcs);
-    same_answer(PACK, zaq_pack_network(3, 4, arcs, 4, network), sizeof Q << 8, "arc length 4 in Q as a list");
+    same_answer(PACK, zaq_pack_network(3, 4, arcs, 4, network, sizeof network), sizeof Q << 8, "arc length 4 in Q as a list");
     check(memcmp(network, Q, sizeof Q) == 0, "Q as a list");
     arcs[3].length = 5;
-    same_answer(PACK, zaq_pack_network(3, 4, arcs, 4, network), 7, "arc length 5 in Q as a list");
+    same_answer(PACK, zaq_pack_network(3, 4, arcs, 4, network, sizeof network), 7, "arc length 5 in Q as a list");
 }
 
-/* What is empty may be handed over as NULL: no steps, no bytes, no arcs, no room. */
-static void nothing_at_all(void)
+/* The outcome of a run in a room that just holds it, by document 01's P1 to P3. */
+static void whole_outcome(void)
 {
+    static const uint16_t right[] = {0, 0, 1, 2, 2, 2, 5, 3, 0, 0, 1, 3, 4, 1, 5, 1, 0, 0};
+    enum { NUMBERS = sizeof right / sizeof *right };
     uint64_t counts[4];
-    uint16_t entries[16][16][2];
-    uint8_t route[ZAQ_ROUTE_ROOM], network[ZAQ_NETWORK_ROOM];
+    uint16_t entries[NUMBERS];
+    same_answer(RUN, zaq_run(Q, sizeof Q, steps, TO_THE_END, counts, entries, NUMBERS), 0, "Q run to the end");
+    check(memcmp(entries, right, sizeof right) == 0, "P1 to P3 row by row");
+    check(counts[0] + counts[1] == TO_THE_END && counts[2] == 0 && counts[3] == 3, "every step of Q is known, and all stop");
+    same_answer(RUN_ARCS, zaq_run_arcs(3, 4, Q_arcs, 4, steps, TO_THE_END, counts, entries, NUMBERS), 0, "Q as a list, run to the end");
+    check(memcmp(entries, right, sizeof right) == 0, "P1 to P3 row by row, of the list");
+}
+
+/* What is empty may be handed over as NULL, whatever it is: no bytes, no arcs, no steps, no room. */
+static void no_input(void)
+{
+    static const uint8_t alone[] = {0x10, 0x10, 0x00};
+    uint64_t counts[4] = {9, 9, 9, 9};
+    uint16_t entries[18];
+    uint32_t nothing = entry(ZAQ_UNKNOWN, ZAQ_NO_HOP);
     same_answer(CHECK, zaq_check_network(NULL, 0), 1, "no network bytes");
+    same_answer(WRITE, zaq_write_table(NULL, 0, NULL, 0, 1, NULL, 0), 1, "no network bytes, no steps, no room");
+    same_answer(RUN, zaq_run(NULL, 0, NULL, 0, counts, NULL, 0), 1, "no network bytes to run");
+    same_answer(ENTRY, zaq_entry(NULL, 0, NULL, 0, 1, 1), 1, "no network bytes to ask");
+    same_answer(ROUTE, zaq_route(NULL, 0, NULL, 0, 1, 1, NULL, 0), 1, "no network bytes and no route");
+    same_answer(RUN, zaq_run(Q, sizeof Q, NULL, 0, counts, entries, 18), 0, "no steps");
+    check(counts[0] == 0 && counts[1] == 0 && counts[2] == 0 && counts[3] == 0, "no steps, no counts");
+    same_answer(ENTRY, zaq_entry(Q, sizeof Q, NULL, 0, 1, 1), nothing, "no steps, nothing known");
+    same_answer(WRITE, zaq_write_table(Q, sizeof Q, NULL, 0, 1, NULL, 0), 12, "no steps and no room");
     same_answer(READ_ENTRY, zaq_read_entry(NULL, 0, 1), 14, "no file");
     same_answer(READ_TABLE, zaq_read_table(NULL, 0, NULL, 0), 14, "no file and no room");
-    same_answer(READ_TABLE, zaq_read_table(P4, sizeof P4, NULL, 0), 13, "no room for entries");
-    same_answer(WRITE, zaq_write_table(Q, sizeof Q, NULL, 0, 1, NULL, 0), 12, "no steps and no room");
+    same_answer(READ_TABLE, zaq_read_table(NULL, 0, entries, 18), 14, "no file and a room");
+    same_answer(CHECK, zaq_check_network(alone, sizeof alone), 0, "a node alone");
+}
+
+static void no_room(void)
+{
+    uint64_t counts[4] = {9, 9, 9, 9};
     same_answer(WRITE, zaq_write_table(Q, sizeof Q, steps, TO_THE_END, 1, NULL, 0), 13, "no room for a file");
-    same_answer(RUN, zaq_run(Q, sizeof Q, NULL, 0, counts, entries), 0, "no steps");
-    check(counts[0] == 0 && counts[1] == 0 && counts[2] == 0 && counts[3] == 0, "no steps, no counts");
-    same_answer(ENTRY, zaq_entry(Q, sizeof Q, NULL, 0, 1, 1), entry(ZAQ_UNKNOWN, ZAQ_NO_HOP), "no steps, nothing known");
-    same_answer(ROUTE, zaq_route(Q, sizeof Q, NULL, 0, 1, 2, route), entry(ZAQ_UNKNOWN, 0), "no steps, no route");
-    same_answer(PACK, zaq_pack_network(1, 1, NULL, 0, network), 3 << 8, "no arcs");
+    same_answer(RUN, zaq_run(Q, sizeof Q, steps, TO_THE_END, counts, NULL, 0), 13, "no room for entries");
+    check(counts[0] == 9 && counts[1] == 9 && counts[2] == 9 && counts[3] == 9, "no room for entries, no counts");
+    same_answer(ROUTE, zaq_route(Q, sizeof Q, steps, TO_THE_END, 1, 3, NULL, 0), 13, "no room for a route");
+    same_answer(ROUTE, zaq_route(Q, sizeof Q, steps, TO_THE_END, 1, 1, NULL, 0), 0, "no room for a route of no node");
+    same_answer(ROUTE, zaq_route(Q, sizeof Q, NULL, 0, 1, 2, NULL, 0), entry(ZAQ_UNKNOWN, 0), "no steps, no route and no room");
+    same_answer(READ_TABLE, zaq_read_table(P4, sizeof P4, NULL, 0), 13, "no room for a table");
+    same_answer(PACK, zaq_pack_network(3, 4, Q_arcs, 4, NULL, 0), 13, "no room for a network");
+    same_answer(RUN_ARCS, zaq_run_arcs(3, 4, Q_arcs, 4, steps, TO_THE_END, counts, NULL, 0), 13, "no room for a list's entries");
+    same_answer(ROUTE_ARCS, zaq_route_arcs(3, 4, Q_arcs, 4, steps, TO_THE_END, 1, 3, NULL, 0), 13, "no room for a list's route");
+    same_answer(WRITE_ARCS, zaq_write_table_arcs(3, 4, Q_arcs, 4, steps, TO_THE_END, 1, NULL, 0), 13, "no room for a list's file");
+    check(counts[0] == 9 && counts[3] == 9, "no room for a list's entries, no counts");
+}
+
+static void no_arcs(void)
+{
+    uint64_t counts[4] = {9, 9, 9, 9};
+    uint16_t entries[2];
+    uint8_t room[ZAQ_FILE_ROOM];
+    uint32_t nothing = entry(ZAQ_UNKNOWN, ZAQ_NO_HOP);
+    same_answer(CHECK_ARCS, zaq_check_arcs(1, 1, NULL, 0), 0, "no arcs");
+    same_answer(PACK, zaq_pack_network(1, 1, NULL, 0, room, 3), 3 << 8, "no arcs packed");
+    same_answer(PACK, zaq_pack_network(1, 1, NULL, 0, NULL, 0), 13, "no arcs and no room");
+    same_answer(RUN_ARCS, zaq_run_arcs(1, 1, NULL, 0, NULL, 0, counts, NULL, 0), 13, "no arcs, no steps, no room");
+    check(counts[0] == 9 && counts[3] == 9, "a list without room for entries has no counts");
+    same_answer(RUN_ARCS, zaq_run_arcs(1, 1, NULL, 0, NULL, 0, counts, entries, 2), 0, "no arcs and no steps");
+    check(entries[0] == ZAQ_UNKNOWN && entries[1] == ZAQ_NO_HOP && counts[0] == 0, "no arcs and no steps, nothing known");
+    same_answer(ENTRY_ARCS, zaq_entry_arcs(1, 1, NULL, 0, NULL, 0, 1, 1), nothing, "no arcs, nothing known");
+    same_answer(ROUTE_ARCS, zaq_route_arcs(1, 1, NULL, 0, NULL, 0, 1, 1, NULL, 0), entry(ZAQ_UNKNOWN, 0), "no arcs, no route");
+    same_answer(WRITE_ARCS, zaq_write_table_arcs(1, 1, NULL, 0, NULL, 0, 1, NULL, 0), 12, "no arcs, no file");
+    same_answer(WRITE_ARCS, zaq_write_table_arcs(1, 1, NULL, 0, (const uint8_t[]){0}, 1, 1, NULL, 0), 13, "no arcs and no room for a file");
+    same_answer(WRITE_ARCS, zaq_write_table_arcs(1, 1, NULL, 0, (const uint8_t[]){0}, 1, 1, room, 3), 3 << 8, "no arcs and a file");
+    check(memcmp(room, P11, sizeof P11) == 0, "P11 of a list");
+}
+
+static void arcs_without_steps(void)
+{
+    uint64_t counts[4] = {9, 9, 9, 9};
+    uint16_t entries[18];
+    uint32_t nothing = entry(ZAQ_UNKNOWN, ZAQ_NO_HOP);
+    same_answer(RUN_ARCS, zaq_run_arcs(3, 4, Q_arcs, 4, NULL, 0, counts, entries, 18), 0, "a list and no steps");
+    check(counts[0] == 0 && counts[3] == 0 && entries[0] == ZAQ_UNKNOWN && entries[17] == ZAQ_NO_HOP, "a list and no steps: the rooms");
+    same_answer(ENTRY_ARCS, zaq_entry_arcs(3, 4, Q_arcs, 4, NULL, 0, 1, 2), nothing, "a list and no steps: an entry");
+    same_answer(ROUTE_ARCS, zaq_route_arcs(3, 4, Q_arcs, 4, NULL, 0, 1, 2, NULL, 0), entry(ZAQ_UNKNOWN, 0), "a list and no steps: a route");
+    same_answer(WRITE_ARCS, zaq_write_table_arcs(3, 4, Q_arcs, 4, NULL, 0, 1, NULL, 0), 12, "a list and no steps: a file");
 }
 
 void test_examples(void)
@@ -134,5 +201,9 @@ void test_examples(void)
     p7_to_p9();
     p11_and_p12();
     unmarked();
-    nothing_at_all();
+    whole_outcome();
+    no_input();
+    no_room();
+    no_arcs();
+    arcs_without_steps();
 }

@@ -12,7 +12,7 @@ static unsigned net_refusal;
 static unsigned long shapes[MOST_NODES][2]; /* files seen, by records and by stopped */
 
 static struct room {
-    uint8_t before[8], bytes[MOST_ROOM], behind[8];
+    uint8_t before[8], bytes[MOST_ROOM], after[8];
 } got, want;
 
 static void random_run(unsigned kind, size_t count)
@@ -49,7 +49,9 @@ static void same_file_of_list(const uint8_t *lent_steps, uint32_t node, size_t s
     memset(&got, (int)random_below(256), sizeof got);
     memcpy(&want, &got, sizeof got);
     uint32_t right = wanted(node, size);
-    uint32_t answer = zaq_write_table_arcs((uint8_t)net.n, (uint8_t)net.lmax, list_at_edge(&net), net.arcs, lent_steps, step_count, node, got.bytes, size);
+    const zaq_arc *list = list_at_edge(&net);
+    uint32_t answer = zaq_write_table_arcs(
+        (uint8_t)net.n, (uint8_t)net.lmax, list, net.arcs, lent_steps, step_count, node, got.bytes, size);
     same_answer(WRITE_ARCS, answer, right, "writing a file of an arc list");
     check(memcmp(&got, &want, sizeof got) == 0, "the room holds the arc list's file and nothing else");
 }
@@ -113,7 +115,7 @@ static void refused_networks(void)
 {
     struct ref_net dummy;
     uint32_t asked[MOST_ASKED];
-    for (unsigned round = 0; round < 8000; round++) {
+    for (unsigned round = 0; round < rounds(8000); round++) {
         random_run(round % STEP_KINDS, random_below(50));
         net_len = spoil_somehow(bytes, net_len);
         net_refusal = ref_read_network(bytes, net_len, &dummy);
@@ -125,15 +127,15 @@ static void refused_networks(void)
 
 void test_files(void)
 {
-    for (unsigned round = 0; round < 6000; round++) {
+    for (unsigned round = 0; round < rounds(6000); round++) {
         random_run(round % STEP_KINDS, random_length());
         every_node();
     }
-    for (unsigned round = 0; round < 80; round++) {
+    for (unsigned round = 0; round < rounds(80); round++) {
         random_run(round % STEP_KINDS, random_length());
         every_room();
     }
     refused_networks();
     for (unsigned records = 0; records < MOST_NODES; records++)
-        check(shapes[records][0] > 0 && shapes[records][1] > 0, "files of every number of records, with the end mark and without");
+        check((shapes[records][0] && shapes[records][1]) || is_quick(), "files of every number of records, with the end mark and without");
 }

@@ -21,3 +21,30 @@ size_t arc_list(const struct ref_net *net, zaq_arc list[MOST_ARCS])
         list[k] = (zaq_arc){(uint8_t)net->arc[k].tail, (uint8_t)net->arc[k].head, (uint8_t)net->arc[k].len};
     return net->arcs;
 }
+
+void put_outcome(const struct ref_run *run, uint64_t counts[4], uint16_t *entries)
+{
+    unsigned n = run->net->n;
+    counts[0] = run->taken;
+    counts[1] = run->idle;
+    counts[2] = run->unknown;
+    counts[3] = ref_stopped(run);
+    for (unsigned i = 1; i <= n; i++)
+        for (unsigned y = 1; y <= n; y++) {
+            struct ref_entry e = ref_entry_of(run, i, y);
+            *entries++ = (uint16_t)header_distance(e);
+            *entries++ = (uint16_t)header_hop(e);
+        }
+}
+
+unsigned simulated_route(const struct ref_run *run, unsigned node, unsigned target, uint8_t passed[MOST_NODES])
+{
+    unsigned count = 0;
+    if (ref_entry_of(run, node, target).distance < 0)
+        return 0;
+    for (unsigned at = node; at != target && count < MOST_NODES;) {
+        at = ref_entry_of(run, at, target).hop;
+        passed[count++] = (uint8_t)at;
+    }
+    return count;
+}

@@ -1,4 +1,4 @@
-/* A writer that is killed: a child process writes a table file byte by byte and is killed behind byte k, for every k. The parent reads
+/* A writer that is killed: a child process writes a table file byte by byte and is killed after byte k, for every k. The parent reads
  * what has remained. */
 #define _POSIX_C_SOURCE 200809L
 #include "test.h"
@@ -30,8 +30,8 @@ static void child(int disk, int tell, const uint8_t *bytes, size_t k)
         pause();
 }
 
-/* Starts a writer and kills it behind byte k; what has remained, and how many bytes. */
-static size_t killed_behind(const uint8_t *bytes, size_t k, uint8_t *left, size_t size)
+/* Starts a writer and kills it after byte k; what has remained, and how many bytes. */
+static size_t killed_after(const uint8_t *bytes, size_t k, uint8_t *left, size_t size)
 {
     FILE *disk = tmpfile();
     int line[2], status = 0;
@@ -62,7 +62,7 @@ static void every_kill(unsigned node, const uint8_t *steps, size_t count)
     uint32_t answer = zaq_write_table(network, len, steps, count, node, file, sizeof file);
     check(zaq_refusal(answer) == 0, "a file to be brought to disk");
     for (size_t k = 0; k <= zaq_written(answer); k++) {
-        size_t remained = killed_behind(file, k, left, sizeof left);
+        size_t remained = killed_after(file, k, left, sizeof left);
         check(remained == k && memcmp(left, file, k) == 0, "the bytes written have remained");
         check_cut(&run, node, left, remained, zaq_written(answer));
     }
@@ -71,7 +71,7 @@ static void every_kill(unsigned node, const uint8_t *steps, size_t count)
 void test_killed_writer(void)
 {
     static uint8_t steps[4000];
-    for (unsigned round = 0; round < 30; round++) {
+    for (unsigned round = 0; round < rounds(30); round++) {
         size_t count = round % 2 ? sizeof steps : 40 + random_below(300);
         do
             random_network(&net);

@@ -1,6 +1,7 @@
 /* The outside tests: the static library, as C calls it, against an independent reading of document 01.
- * usage: outside [SEED]    the tests
- *        outside print     what document 01 says House table prints for standard input */
+ * usage: outside [quick] [SEED]   the tests, or a tenth of them up to the first group with a failure
+ *        outside print            what document 01 says House table prints for standard input
+ *        outside input SEED       a random input for House table */
 #include "test.h"
 #include <stdio.h>
 #include <stdlib.h>
@@ -10,6 +11,17 @@
 enum { MOST_SHOWN = 700 };
 
 static unsigned long passed, failed;
+static int quick;
+
+int is_quick(void)
+{
+    return quick;
+}
+
+unsigned rounds(unsigned full)
+{
+    return quick ? (full + 9) / 10 : full;
+}
 
 /* what the checks are about; without bytes it is a number */
 static struct {
@@ -61,12 +73,13 @@ static const struct {
     const char *name;
     void (*test)(void);
 } tests[] = {
-    {"networks", test_networks},
-    {"houses", test_houses},
+    {"the list of refusals", test_words},
     {"01's examples", test_examples},
+    {"networks", test_networks},
     {"runs", test_runs},
     {"entries and routes", test_entries},
     {"arc lists", test_arcs},
+    {"rooms of every size", test_rooms},
     {"writing files", test_files},
     {"reading files", test_reading},
     {"a killed writer", test_killed_writer},
@@ -75,7 +88,7 @@ static const struct {
 
 static void run_tests(void)
 {
-    for (size_t k = 0; k < sizeof tests / sizeof *tests; k++) {
+    for (size_t k = 0; k < sizeof tests / sizeof *tests && !(quick && failed); k++) {
         unsigned long passed_before = passed, failed_before = failed;
         clock_t began = clock();
         memset(shown, 0, sizeof shown);
@@ -86,14 +99,33 @@ static void run_tests(void)
     }
 }
 
+/* A seed; 0 where the word is none. */
+static uint32_t seed_of(const char *word)
+{
+    char *end;
+    unsigned long seed = strtoul(word, &end, 10);
+    return *word >= '0' && *word <= '9' && *end == '\0' ? (uint32_t)seed : 0;
+}
+
 int main(int argc, char **argv)
 {
-    if (argc > 1 && strcmp(argv[1], "print") == 0) {
+    const char *word = argc > 1 ? argv[1] : "";
+    quick = strcmp(word, "quick") == 0;
+    int input = strcmp(word, "input") == 0, place = quick || input ? 2 : 1;
+    if (argc == 2 && strcmp(word, "print") == 0) {
         print_house();
         return 0;
     }
-    uint32_t seed = argc > 1 ? (uint32_t)strtoul(argv[1], NULL, 10) : 20011;
+    uint32_t seed = argc > place ? seed_of(argv[place]) : 20011;
+    if (argc > place + 1 || seed == 0) {
+        fprintf(stderr, "usage: outside [quick] [SEED] | print | input SEED    SEED is a number from 1 on\n");
+        return 2;
+    }
     random_seed(seed);
+    if (input) {
+        print_input();
+        return 0;
+    }
     printf("seed %lu\n", (unsigned long)seed);
     fflush(stdout);
     run_tests();

@@ -132,6 +132,22 @@ void random_steps(const struct ref_net *net, unsigned kind, uint8_t *steps, size
         steps[k] = next_step(net, kind, k, one);
 }
 
+size_t random_room(size_t enough, size_t most)
+{
+    switch (random_below(6)) {
+    case 0:
+        return enough > 0 ? enough - 1 : 0;
+    case 1:
+        return enough + 1;
+    case 2:
+        return random_below(3);
+    case 3:
+        return random_below((unsigned)most + 1);
+    default:
+        return enough;
+    }
+}
+
 size_t random_length(void)
 {
     return random_below(6) ? random_below(600) : 1500 + random_below(6000);

@@ -29,7 +29,7 @@ static void make_records(struct ref_node *nd, unsigned own)
     }
 }
 
-/* Moves a record and those behind it farther by this much, or nearer. */
+/* Moves a record and those after it farther by this much, or nearer. */
 static void move(struct ref_node *nd, unsigned from, unsigned by)
 {
     for (unsigned k = from; k < nd->filled_count; k++)
@@ -80,7 +80,7 @@ static size_t spoil_bytes(uint8_t *bytes, size_t len)
     case 2: /* further bytes of zeros, or of ones */
         memset(bytes + len, random_below(2) ? 255 : 0, more);
         return len + more;
-    case 3: /* anything behind it */
+    case 3: /* anything after it */
         for (size_t k = len; k < len + more; k++)
             bytes[k] = (uint8_t)random_number();
         return len + more;

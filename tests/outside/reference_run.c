@@ -168,7 +168,8 @@ void ref_shortest(const struct ref_net *net, struct ref_truth *truth)
             truth->hop[i][k] = 0;
             for (unsigned a = 0; a < net->arcs && i != k; a++) {
                 unsigned h = net->arc[a].head;
-                if (net->arc[a].tail == i && truth->distance[h][k] >= 0 && truth->distance[i][k] == (int)net->arc[a].len + truth->distance[h][k]
+                if (net->arc[a].tail == i && truth->distance[h][k] >= 0
+                    && truth->distance[i][k] == (int)net->arc[a].len + truth->distance[h][k]
                     && (truth->hop[i][k] == 0 || h < truth->hop[i][k]))
                     truth->hop[i][k] = h;
             }

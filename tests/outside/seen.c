@@ -8,7 +8,6 @@
 #include <unistd.h>
 
 enum { OWN, DISTANCE, FARTHEST, NOT_KNOWN, NOT_REACHABLE, KINDS };
-enum { OFTEN = 100 };
 
 static unsigned long refusals[CALLS][256], kinds[CALLS][KINDS];
 
@@ -22,15 +21,15 @@ static const struct {
     [WRITE] = {"zaq_write_table", 0, {1, 2, 3, 4, 5, 6, 7, 8, 9, 11, 12, 13}},
     [READ_ENTRY] = {"zaq_read_entry", 1, {11, 14, 15, 16, 17, 18}},
     [READ_TABLE] = {"zaq_read_table", 1, {13, 14, 15, 16, 17, 18}},
-    [RUN] = {"zaq_run", 1, {1, 2, 3, 4, 5, 6, 7, 8, 9}},
+    [RUN] = {"zaq_run", 1, {1, 2, 3, 4, 5, 6, 7, 8, 9, 13}},
     [ENTRY] = {"zaq_entry", 1, {1, 2, 3, 4, 5, 6, 7, 8, 9, 11}},
-    [ROUTE] = {"zaq_route", 1, {1, 2, 3, 4, 5, 6, 7, 8, 9, 11}},
-    [PACK] = {"zaq_pack_network", 0, {3, 4, 5, 6, 7, 8, 19}},
+    [ROUTE] = {"zaq_route", 1, {1, 2, 3, 4, 5, 6, 7, 8, 9, 11, 13}},
+    [PACK] = {"zaq_pack_network", 0, {3, 4, 5, 6, 7, 8, 13, 19}},
     [CHECK_ARCS] = {"zaq_check_arcs", 0, {3, 4, 5, 6, 7, 8, 19}},
     [WRITE_ARCS] = {"zaq_write_table_arcs", 0, {3, 4, 5, 6, 7, 8, 11, 12, 13, 19}},
-    [RUN_ARCS] = {"zaq_run_arcs", 1, {3, 4, 5, 6, 7, 8, 19}},
+    [RUN_ARCS] = {"zaq_run_arcs", 1, {3, 4, 5, 6, 7, 8, 13, 19}},
     [ENTRY_ARCS] = {"zaq_entry_arcs", 1, {3, 4, 5, 6, 7, 8, 11, 19}},
-    [ROUTE_ARCS] = {"zaq_route_arcs", 1, {3, 4, 5, 6, 7, 8, 11, 19}},
+    [ROUTE_ARCS] = {"zaq_route_arcs", 1, {3, 4, 5, 6, 7, 8, 11, 13, 19}},
 };
 
 void same_answer(enum call call, uint32_t got, uint32_t want, const char *what)
@@ -59,16 +58,17 @@ static int is_promised(enum call call, unsigned refusal)
 static void seen_of(enum call call)
 {
     char what[80];
+    unsigned long often = is_quick() ? 0 : 100, once = is_quick() ? 0 : 1; /* a quick run need not have seen everything */
     for (unsigned refusal = 0; refusal < 256; refusal++) {
         snprintf(what, sizeof what, "%s: refusal %u seen %lu times", promised[call].name, refusal, refusals[call][refusal]);
         if (is_promised(call, refusal))
-            check(refusals[call][refusal] >= OFTEN, what);
+            check(refusals[call][refusal] >= often, what);
         else
             check(refusals[call][refusal] == 0, what);
     }
     for (unsigned kind = 0; kind < KINDS && promised[call].entries; kind++) {
         snprintf(what, sizeof what, "%s: entries of kind %u seen %lu times", promised[call].name, kind, kinds[call][kind]);
-        check(kinds[call][kind] >= (kind == FARTHEST ? 1 : OFTEN), what);
+        check(kinds[call][kind] >= (kind == FARTHEST ? once : often), what);
     }
 }
 
@@ -95,7 +95,7 @@ const uint8_t *at_edge(unsigned place, const uint8_t *bytes, size_t len)
         fprintf(stderr, "%zu bytes are too many for an edge\n", len);
         exit(2);
     }
-    return memcpy(end[place] - len, bytes, len);
+    return len ? memcpy(end[place] - len, bytes, len) : end[place];
 }
 
 const zaq_arc *list_at_edge(const struct ref_net *net)

@@ -12,10 +12,15 @@ void check(int ok, const char *what);
 /* The bytes and numbers that the checks below are about; shown where one fails. */
 void about(const char *name, const uint8_t *bytes, size_t len);
 void about_number(const char *name, uint32_t number);
+/* How often a test tries something that it tries so often in a full run: a quick run has a tenth of it. */
+unsigned rounds(unsigned full);
+int is_quick(void);
 
 /* ---- seen.c: the calls that can refuse, and what they have answered */
 
-enum call { CHECK, WRITE, READ_ENTRY, READ_TABLE, RUN, ENTRY, ROUTE, PACK, CHECK_ARCS, WRITE_ARCS, RUN_ARCS, ENTRY_ARCS, ROUTE_ARCS, CALLS };
+enum call {
+    CHECK, WRITE, READ_ENTRY, READ_TABLE, RUN, ENTRY, ROUTE, PACK, CHECK_ARCS, WRITE_ARCS, RUN_ARCS, ENTRY_ARCS, ROUTE_ARCS, CALLS
+};
 /* A call's answer is the one wanted; its refusal is counted. */
 void same_answer(enum call call, uint32_t got, uint32_t want, const char *what);
 /* A distance or mark that a call handed over is counted. */
@@ -35,6 +40,8 @@ void random_network(struct ref_net *net);
 /* A step list in one of STEP_KINDS orders. */
 enum { STEP_KINDS = 8 };
 void random_steps(const struct ref_net *net, unsigned kind, uint8_t *steps, size_t count);
+/* A room's size: enough, one more or less, none, or any size up to `most`. */
+size_t random_room(size_t enough, size_t most);
 /* How long a random step list is: mostly short, some long enough for every node to stop. */
 size_t random_length(void);
 /* A fault of refusal `number` (1 to 9) in a network's bytes, if it has a place for it; returns the new length, one more at most. */
@@ -55,11 +62,12 @@ size_t random_file(uint8_t bytes[MOST_FILE]);
  * exactly the entries whose records stand whole, and unknown for the rest; unreachable only if nothing is cut. */
 void check_cut(const struct ref_run *run, unsigned node, const uint8_t *file, size_t left, size_t whole);
 
+void test_words(void);
 void test_networks(void);
-void test_houses(void);
 void test_examples(void);
 void test_runs(void);
 void test_entries(void);
+void test_rooms(void);
 void test_arcs(void);
 void test_files(void);
 void test_reading(void);
@@ -68,4 +76,6 @@ void test_killed_writer(void);
 void test_seen(void);
 /* Reads an input as House table does and prints what 01 says it prints. */
 void print_house(void);
+/* Writes a random input for House table: a network's bytes and steps, some with a fault. */
+void print_input(void);
 #endif

@@ -1,6 +1,5 @@
 /* Reads the files. What is a network or a table is the library's to say; what fits together is said here. */
 #include "draw.h"
-#include "../../include/zaqfinell_words.h"
 #include "zaqfinell.h"
 #include <errno.h>
 #include <stdarg.h>
@@ -94,15 +93,15 @@ static int follow(const char *path, const struct house *house, struct table *tab
         struct arc arc = house->arc[k];
         int fits = arc_fits(table, arc);
         if (fits < 0)
-            return trouble(REFUSED, path, "the table is not of this house: its entry for %u is not what the arc from %u to %u makes it", arc.head,
-                           arc.tail, arc.head);
+            return trouble(REFUSED, path, "the table is not of this house: its entry for %u is not what the arc from %u to %u makes it",
+                arc.head, arc.tail, arc.head);
         if (fits && (table->before[arc.head] == 0 || arc.tail < table->before[arc.head]))
             table->before[arc.head] = arc.tail;
     }
     for (unsigned y = 1; y <= house->n; y++)
         if (y != table->own && is_known(table, y) && table->before[y] == 0)
-            return trouble(REFUSED, path, "the table is not of this house: no arcs make its entry for %u, distance %u by %u", y, table->distance[y],
-                           table->hop[y]);
+            return trouble(REFUSED, path, "the table is not of this house: no arcs make its entry for %u, distance %u by %u", y,
+                table->distance[y], table->hop[y]);
     return 0;
 }
 

@@ -47,7 +47,8 @@ static void draw_row(const struct house *house, const struct table *table, unsig
         printf("<text class=\"quiet end\" x=\"%d\" y=\"%.0f\">%s</text>\n", HOP, y, state(table, node));
     else {
         printf("<text class=\"end\" x=\"%d\" y=\"%.0f\">%u</text>", DISTANCE, y, table->distance[node]);
-        printf("<text class=\"strong end\" x=\"%d\" y=\"%.0f\" style=\"fill: %s\">%u</text>\n", HOP, y, colour[table->hop[node]], table->hop[node]);
+        unsigned hop = table->hop[node];
+        printf("<text class=\"strong end\" x=\"%d\" y=\"%.0f\" style=\"fill: %s\">%u</text>\n", HOP, y, colour[hop], hop);
     }
 }
 

@@ -4,8 +4,10 @@
 #include <math.h>
 #include <stdio.h>
 
-const char *const colour[MOST_NODES + 1] = {"#334155", "#2563eb", "#7c3aed", "#059669", "#d97706", "#0891b2", "#db2777", "#65a30d", "#92400e",
-                                              "#c026d3", "#0f766e", "#ea580c", "#4338ca", "#a16207", "#166534", "#9d174d", "#0369a1"};
+const char *const colour[MOST_NODES + 1] = {
+    "#334155", "#2563eb", "#7c3aed", "#059669", "#d97706", "#0891b2", "#db2777", "#65a30d", "#92400e", "#c026d3", "#0f766e", "#ea580c",
+    "#4338ca", "#a16207", "#166534", "#9d174d", "#0369a1",
+};
 
 static const char style[] =
     "<style>\n"
@@ -20,7 +22,8 @@ static const char style[] =
     ".arc { fill: none; stroke: #b6c0cc; stroke-width: 1; }\n"
     ".tip { fill: #b6c0cc; }\n"
     ".route, .sample-route { fill: none; stroke-width: 3.5; stroke-linecap: round; }\n"
-    ".length { font-size: 12px; text-anchor: middle; fill: #334155; stroke: #fff; stroke-width: 5; stroke-linejoin: round; paint-order: stroke; }\n"
+    ".length { font-size: 12px; text-anchor: middle; fill: #334155; "
+    "stroke: #fff; stroke-width: 5; stroke-linejoin: round; paint-order: stroke; }\n"
     ".rim { fill: #fff; stroke-width: 2.5; }\n"
     ".own .rim { fill: #334155; stroke: #334155; }\n"
     ".own .number { fill: #fff; }\n"
@@ -50,8 +53,8 @@ static void tip(const char *fill, struct line line, double size)
         printf("<path fill=\"%s\"", fill);
     else
         printf("<path class=\"tip\"");
-    printf(" d=\"M%.1f %.1f L%.1f %.1f L%.1f %.1f Z\"/>\n", line.to.x, line.to.y, base.x - 0.45 * dy, base.y + 0.45 * dx, base.x + 0.45 * dy,
-           base.y - 0.45 * dx);
+    printf(" d=\"M%.1f %.1f L%.1f %.1f L%.1f %.1f Z\"/>\n", line.to.x, line.to.y, base.x - 0.45 * dy, base.y + 0.45 * dx,
+        base.x + 0.45 * dy, base.y - 0.45 * dx);
 }
 
 static void draw_arcs(const struct house *house, const struct line line[MOST_ARCS])

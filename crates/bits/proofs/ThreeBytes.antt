@@ -1,25 +1,27 @@
--- A field read and written by the three bytes that it touches; bytes behind the end count as 0.
--- Assumes nothing.
+-- A field read by the three bytes that it touches; bytes after the end count as 0.
 use mathlib.Core.Path.{_≡_, refl, sym, _∙_, ap}
 use mathlib.Core.List.{List, [], _∷_, _++_, append-assoc, append-nil}
 use Prim.Native.Nat.{ℕ, zero, suc, _+_, _*_, _/_, _%_, _^_, _≤_, _<_}
 use native.Mathlib.Omega.{arith}
-use lib.ListN.{length, getD, set, take, drop, replicate, length-append}
-use lib.Seq.{sets, sets-eq, set-getD, take-at, length-take-le}
+use lib.ListN.{length, getD, take, drop, replicate, length-append}
+use lib.Seq.{sets, sets-eq, set-getD, length-take-le}
 use lib.Pow.{shr-shr}
-use Rattle.bits.specs.Bits.{asBits, bitsOf, field, withField, Bytes}
-use Rattle.bits.specs.Window.{windowAt, threeBytes, replaced}
+use Rattle.bits.specs.Bits.{asBits, bitsOf, field, Bytes}
+use Rattle.bits.specs.Window.{windowAt}
 use Rattle.bits.proofs.AsBits.{length-asBits, asBits-split, asBits-mod}
-use Rattle.bits.proofs.Field.{field-front, field-behind, field-of-number}
-use Rattle.bits.proofs.WithField.{withField-front, withField-behind, length-withField}
-use Rattle.bits.proofs.Replaced.{replaced-bits}
-use Rattle.bits.proofs.Bytes.{length-bits, bits-append, cut-bits}
+use Rattle.bits.proofs.Field.{field-front, field-after, field-of-number}
+use Rattle.bits.proofs.Bytes.{length-bits, bits-append}
 
--- the bits of a window's three bytes
+-- a window's three bytes
+abbrev threeBytes : ℕ → List ℕ
+threeBytes y = y / 65536 ∷ y / 256 % 256 ∷ y % 256 ∷ []
+
+-- their bits
 bits-three : (y : ℕ) → bitsOf (threeBytes y) ≡ asBits 24 y
 unfolding bitsOf
 bits-three y =
-    rw (append-nil, asBits-mod 8 (y / 256), asBits-mod 8 y, asBits-split 16 8 y, asBits-split 8 8 (y / 256), shr-shr y 8 8) (simp append-assoc)
+    rw (append-nil, asBits-mod 8 (y / 256), asBits-mod 8 y, asBits-split 16 8 y, asBits-split 8 8 (y / 256), shr-shr y 8 8)
+    (simp append-assoc)
 
 -- the bits around them
 bits-around : (s : List ℕ) (k y : ℕ) → k + 3 ≤ length s
@@ -41,24 +43,14 @@ window-same s k by =
     let k2 : k + 2 ≡ suc (suc k) = omega arith in
     rw (e1, e2, e3, k1, k2) (simp set-getD)
 
--- zeros behind the end, so that three bytes stand from every byte on
+-- zeros after the end, so that three bytes stand from every byte on
 
-zeros-behind : (n : ℕ) (s : List ℕ) (k : ℕ) → getD (s ++ replicate n 0) k 0 ≡ getD s k 0
-zeros-behind zero [] k = refl
-zeros-behind (suc n) [] zero = refl
-zeros-behind (suc n) [] (suc k) = zeros-behind n [] k
-zeros-behind n (b ∷ s) zero = refl
-zeros-behind n (b ∷ s) (suc k) = zeros-behind n s k
-
-take-set : (n : ℕ) (s : List ℕ) (k x : ℕ) → take n (set s k x) ≡ set (take n s) k x
-take-set zero s k x = refl
-take-set (suc n) [] k x = refl
-take-set (suc n) (b ∷ s) zero x = refl
-take-set (suc n) (b ∷ s) (suc k) x = ap (λ (l : List ℕ). b ∷ l) (take-set n s k x)
-
-take-sets : (n : ℕ) (s : List ℕ) (k : ℕ) (xs : List ℕ) → take n (sets s k xs) ≡ sets (take n s) k xs
-take-sets n s k [] = refl
-take-sets n s k (x ∷ xs) = take-sets n (set s k x) (suc k) xs ∙ ap (λ (l : List ℕ). sets l (suc k) xs) (take-set n s k x)
+zeros-after : (n : ℕ) (s : List ℕ) (k : ℕ) → getD (s ++ replicate n 0) k 0 ≡ getD s k 0
+zeros-after zero [] k = refl
+zeros-after (suc n) [] zero = refl
+zeros-after (suc n) [] (suc k) = zeros-after n [] k
+zeros-after n (b ∷ s) zero = refl
+zeros-after n (b ∷ s) (suc k) = zeros-after n s k
 
 module _ (s : List ℕ) (k o w r : ℕ) (by : Bytes s) (fits : 8 * k + o + w ≤ 8 * length s) (whole : o + w + r ≡ 24) where
   abbrev longer : List ℕ
@@ -77,12 +69,12 @@ module _ (s : List ℕ) (k o w r : ℕ) (by : Bytes s) (fits : 8 * k + o + w ≤
   length-ahead = omega (arith, length-bits (take k longer), length-take-le k longer (omega (arith, three-stand)))
 
   same-window : windowAt longer k ≡ windowAt s k
-  same-window = simp zeros-behind
+  same-window = simp zeros-after
 
   bits-longer : bitsOf s ++ bitsOf (replicate 3 0) ≡ ahead ++ (asBits 24 (windowAt s k) ++ rest)
   bits-longer =
       sym (bits-append s (replicate 3 0))
-      ∙ ap bitsOf (sym (window-same longer k (record { each = λ i. rw zeros-behind (by .each i) })))
+      ∙ ap bitsOf (sym (window-same longer k (record { each = λ i. rw zeros-after (by .each i) })))
       ∙ bits-around longer k (windowAt longer k) three-stand
       ∙ ap (λ (x : ℕ). ahead ++ (asBits 24 x ++ rest)) same-window
 
@@ -92,33 +84,13 @@ module _ (s : List ℕ) (k o w r : ℕ) (by : Bytes s) (fits : 8 * k + o + w ≤
       let x : ℕ = windowAt s k in
       sym (field-front (bitsOf s) (bitsOf (replicate 3 0)) (8 * k + o) w (omega (arith, length-bits s)))
       ∙ ap (λ (B : List ℕ). field B (8 * k + o) w) bits-longer
-      ∙ field-behind ahead (asBits 24 x ++ rest) (8 * k) o w length-ahead
+      ∙ field-after ahead (asBits 24 x ++ rest) (8 * k) o w length-ahead
       ∙ ap (λ (n : ℕ). field (asBits n x ++ rest) o w) (sym whole)
       ∙ field-of-number o w r x rest
 
-  -- and written by writing the window
-  pub window-written : (v : ℕ) → bitsOf (sets s k (threeBytes (replaced (windowAt s k) w r v))) ≡ withField (bitsOf s) (8 * k + o) w v
-  window-written v =
-      let x : ℕ = windowAt s k in
-      let y : ℕ = replaced x w r v in
-      let n : ℕ = length s in
-      let m : asBits 24 y ≡ withField (asBits 24 x) o w v = rw whole at (sym (replaced-bits o w r x v)) in
-      let f : 8 * k + o + w ≤ length (bitsOf s) = omega (arith, length-bits s) in
-      let inside : bitsOf (sets longer k (threeBytes y)) ≡ withField (bitsOf s) (8 * k + o) w v ++ bitsOf (replicate 3 0) =
-      bits-around longer k y three-stand
-      ∙ ap (λ (l : List ℕ). ahead ++ (l ++ rest)) m
-      ∙ ap (λ (l : List ℕ). ahead ++ l) (sym (withField-front (asBits 24 x) rest o w v (omega (arith, length-asBits 24 x))))
-      ∙ sym (withField-behind ahead (asBits 24 x ++ rest) (8 * k) o w v length-ahead)
-      ∙ ap (λ (B : List ℕ). withField B (8 * k + o) w v) (sym bits-longer)
-      ∙ withField-front (bitsOf s) (bitsOf (replicate 3 0)) (8 * k + o) w v f in
-      ap (λ (l : List ℕ). bitsOf (sets l k (threeBytes y))) (sym (take-at s (replicate 3 0) n refl))
-      ∙ ap bitsOf (sym (take-sets n longer k (threeBytes y)))
-      ∙ cut-bits n (sets longer k (threeBytes y))
-      ∙ ap (take (8 * n)) inside
-      ∙ take-at (withField (bitsOf s) (8 * k + o) w v) (bitsOf (replicate 3 0)) (8 * n) (length-withField (bitsOf s) (8 * k + o) w v f ∙ length-bits s)
-
 -- a field that lies in one byte
-pub field-in-byte : (s : List ℕ) (k o w r : ℕ) → Bytes s → k < length s → o + w + r ≡ 8 → field (bitsOf s) (8 * k + o) w ≡ getD s k 0 / 2 ^ r % 2 ^ w
+pub field-in-byte : (s : List ℕ) (k o w r : ℕ) → Bytes s → k < length s → o + w + r ≡ 8
+    → field (bitsOf s) (8 * k + o) w ≡ getD s k 0 / 2 ^ r % 2 ^ w
 field-in-byte s k o w r by h whole =
     let x : ℕ = windowAt s k in
     let b : getD s (k + 1) 0 < 256 = by .each (k + 1) in
@@ -126,3 +98,13 @@ field-in-byte s k o w r by h whole =
     let e : x / 65536 ≡ getD s k 0 = omega arith in
     field-in-window s k o w (16 + r) by (omega arith) (omega arith)
     ∙ ap (λ (n : ℕ). n % 2 ^ w) (sym (shr-shr x 16 r) ∙ ap (λ (n : ℕ). n / 2 ^ r) e)
+
+-- a field that lies in two bytes
+pub field-in-two : (s : List ℕ) (k o w r : ℕ) → Bytes s → k + 1 < length s → o + w + r ≡ 16
+    → field (bitsOf s) (8 * k + o) w ≡ (getD s k 0 * 256 + getD s (k + 1) 0) / 2 ^ r % 2 ^ w
+field-in-two s k o w r by h whole =
+    let x : ℕ = windowAt s k in
+    let c : getD s (k + 2) 0 < 256 = by .each (k + 2) in
+    let e : x / 256 ≡ getD s k 0 * 256 + getD s (k + 1) 0 = omega arith in
+    field-in-window s k o w (8 + r) by (omega arith) (omega arith)
+    ∙ ap (λ (n : ℕ). n % 2 ^ w) (sym (shr-shr x 8 r) ∙ ap (λ (n : ℕ). n / 2 ^ r) e)

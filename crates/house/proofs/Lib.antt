@@ -1,1 +1,3 @@
+pub mod Parts
 pub mod Texts
+pub mod Laws

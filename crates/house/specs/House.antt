@@ -1,16 +1,14 @@
 -- 01, "The bench program": what "House table" writes for an input.
--- Assumes nothing.
-use Prim.Native.Nat.{ℕ, zero, suc}
-use mathlib.Core.List.{List}
+use Prim.Native.Nat.{ℕ}
+use mathlib.Core.List.{List, [], _∷_}
 use lib.ListN.{take, drop}
 use Rattle.method.specs.Network.{Net}
-use Rattle.method.specs.Steps.{Step, steps, run, counts}
-use Rattle.method.specs.Entries.{entry}
-use Rattle.network.specs.Bytes.{count, size, network}
-use Rattle.network.specs.Checked.{fromBytes}
-use Rattle.entries.specs.Read.{stoppedTo}
-use Rattle.text.specs.Lines.{houseText, refusedLine}
-use Rattle.calls.specs.Calls.{runRefusal}
+use Rattle.method.specs.Steps.{Step, steps, run, counts, refused10}
+use Rattle.method.specs.Entries.{entry, stoppedTo}
+use Rattle.refusal.specs.Rows.{Row, _when_, refused, answerBy, _else_}
+use Rattle.network.specs.Bytes.{count, size}
+use Rattle.network.specs.Checked.{Checked, fromBytes}
+use Rattle.house_text.specs.Lines.{houseText, refusedLine}
 
 -- "as many as its arc count asks for": always 3 or more, so an input under 3 bytes is all network
 abbrev pub asked : List ℕ → ℕ
@@ -24,20 +22,31 @@ networkBytes input = take (asked input) input
 abbrev pub stepBytes : List ℕ → List ℕ
 stepBytes input = drop (asked input) input
 
--- "Input that ends inside the network is refusal 1, in its usual place"; the run's refusal, 10, comes after the network's
+-- what is refused after the network: the run, with 10
+abbrev pub houseRows : Net → List Step → List Row
+houseRows net bs = 10 when refused10 net bs ∷ []
+
+abbrev pub houseRefusal : Checked → List ℕ → ℕ
+houseRefusal net bs = net .refused else refused (houseRows (net .meant) (steps bs))
+
+-- "Input that ends inside the network is refusal 1, in its usual place"
 abbrev pub inputRefusal : List ℕ → ℕ
-inputRefusal input = runRefusal (fromBytes (networkBytes input)) (stepBytes input)
+inputRefusal input = houseRefusal (fromBytes (networkBytes input)) (stepBytes input)
 
 -- "one line of counts" ("S is how many nodes have stopped"), "then for each node and target in rising order" its line
 abbrev pub tableText : Net → List Step → List ℕ
 tableText net bs =
-    houseText (counts net bs .taken) (counts net bs .idle) (counts net bs .unknown) (stoppedTo (run net bs) (net .n)) (net .n) (entry net bs)
+    let c = counts net bs in
+    houseText (c .taken) (c .idle) (c .unknown) (stoppedTo (run net bs) (net .n)) (net .n) (entry net bs)
 
 -- "A refusal is the one line `refused N`."
 abbrev pub textOf : ℕ → Net → List Step → List ℕ
-textOf zero net bs = tableText net bs
-textOf (suc r) net bs = refusedLine (suc r)
+textOf N net bs = answerBy N (refusedLine N) (tableText net bs)
+
+-- the text of a network and step bytes
+abbrev pub textFor : Checked → List ℕ → List ℕ
+textFor net bs = textOf (houseRefusal net bs) (net .meant) (steps bs)
 
 -- the whole text of an input
 abbrev pub text : List ℕ → List ℕ
-text input = textOf (inputRefusal input) (network (networkBytes input)) (steps (stepBytes input))
+text input = textFor (fromBytes (networkBytes input)) (stepBytes input)

@@ -2,7 +2,7 @@
 ghost use mathlib.Core.Path.{_≡_};
 ghost use Prim.Native.Nat.{min};
 ghost use lib.ListN.{length};
-ghost use Rattle.text.specs.Room.{Front};
+ghost use Rattle.house_text.specs.Room.{Front};
 ghost use Rattle.house.specs.House.{asked, text};
 
 // Where the network's bytes end and the step bytes begin.
@@ -21,20 +21,23 @@ fn network_end(input: &[u8]) -> usize
     asked
 }
 
+// As many numbers as the entries of 16 nodes are, so that no run is refused with 13.
+const ENTRIES: usize = 512;
+
 // Writes an input's text at the beginning of the room and gives its length. Bytes of the room beyond the text stay.
 pub fn house_table(input: &[u8], room: &mut [u8; 8192]) -> usize
     ensures { λ r. ⌜ Front (now (room .entry)) (text (now (input .entry))) (now (room .exit)) r ⌝ }
 {
     let end = network_end(input);
-    let net = &input[..end];
+    let found = network::check(&input[..end]);
+    let n = found.laid[network::NODES] as usize;
     let mut counts = [0u64; 4];
-    let mut entries = [0u16; 512];
-    let refusal = outcome::of_bytes(net, &input[end..], &mut counts, &mut entries);
+    let mut entries = [0u16; ENTRIES];
+    let refusal = call_run::run(found, &input[end..], &mut counts, &mut entries);
     if refusal != 0 {
-        return text::refused(room, refusal as u64);
+        return house_text::refused(room, refusal as u64);
     }
-    let n = bits::nibble(net, 1) as usize + 1;
-    text::house(
+    house_text::house(
         room,
         counts[0],
         counts[1],

@@ -1,5 +1,4 @@
 -- Each thing that a node does at a turn keeps what holds of it: it stops, waits, fills, or takes what makes nothing known.
--- Assumes nothing.
 use mathlib.Core.Path.{_≡_, refl, sym, ap, subst, _∙_}
 use mathlib.Core.Logic.{_⊎_, inl, inr, _≢_}
 use mathlib.Core.Bool.{Bool, true, false, cond}
@@ -16,12 +15,13 @@ use Rattle.method.specs.Distance.{Chain, here, via, Distance, Starts, Ri
 use Rattle.method.specs.Message.{Msg, label, len, end, Item, finite, infinite, lastLen, item, sendLen}
 use Rattle.method.specs.Rules.{Filled, started, stopped, Node, Choice, stop, wait, fill}
 use Rattle.method.specs.Distinct.{Among}
-use Rattle.method.proofs.Sent.{Labelled, Complete, Good, Under, complete, item-lastLen, sendLen-last, sendLen-labels, sendLen-ends}
+use Rattle.method.specs.Invariant.{In, Has, Labelled, Complete, Good, endsSent, Ok}
+use Rattle.method.proofs.Sent.{Under, complete, item-lastLen, sendLen-last, sendLen-labels, sendLen-ends}
 use Rattle.method.proofs.Sent.{sendLen-good}
 use Rattle.method.proofs.Choosing.{Before, before-more}
 use Rattle.method.proofs.Chains.{snoc}
-use Rattle.method.proofs.Table.{In, Has, has-entry, paced-top}
-use Rattle.method.proofs.View.{Chooses, with, Passed, endsSent, Ok, started-unstarted, started-stopped, stopped-unstarted}
+use Rattle.method.proofs.Table.{has-entry, paced-top}
+use Rattle.method.proofs.View.{Chooses, with, Passed, started-unstarted, started-stopped, stopped-unstarted}
 
 -- a label once taken stays
 labelled-with : (T : ℕ → List Msg) (h : ℕ) (m : Msg) (y k : ℕ) → Labelled y (T k) → Labelled y (with T h m k)

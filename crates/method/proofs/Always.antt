@@ -1,5 +1,4 @@
 -- What each act of a node keeps, holds of every node after any steps.
--- Assumes nothing.
 use mathlib.Core.Path.{_≡_, refl, sym, subst}
 use mathlib.Core.Bool.{Bool, true, false, cond}
 use mathlib.Core.List.{List, [], _∷_}
@@ -12,10 +11,11 @@ use Rattle.method.specs.Rules.{Phase, unstarted, started, stopped, Node}
 use Rattle.method.specs.Work.{Site, heard, work, worksOn, became, begun}
 use Rattle.method.specs.Steps.{State, sents, fresh, put, Step, Named, node, arc, nothing, names, taken, idle, Stepped, starting}
 use Rattle.method.specs.Steps.{handed, delivering, carriedOut, step, runFrom, run}
+use Rattle.method.specs.Invariant.{Inv}
 use Rattle.method.proofs.Keeping.{Keeps}
 use Rattle.method.proofs.Lawful.{Lawful}
 use Rattle.method.proofs.Oldest.{labelled-oldest}
-use Rattle.method.proofs.Runs.{Inv, begun-site, handed-site, true-lists, fresh-ok, step-ok, run-ok}
+use Rattle.method.proofs.Runs.{begun-site, handed-site, true-lists, fresh-ok, step-ok, run-ok}
 use Rattle.method.proofs.Steady.{Source, work-keeps, worksOn-keeps}
 
 module _ (net : Net) (va : Valid net) (P : ℕ → Node → Type 0) (keeps : Keeps net P) where

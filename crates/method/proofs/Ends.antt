@@ -1,6 +1,5 @@
 -- Every run can be brought to its end, however messages travel: while a node has not stopped some step is taken, and no run takes more
 -- than so many.
--- Assumes nothing.
 use mathlib.Core.Path.{_≡_, refl, sym, ap, subst, _∙_}
 use mathlib.Core.Logic.{_⊎_, inl, inr}
 use mathlib.Core.List.{List, [], _∷_, _++_, append-nil, append-assoc}

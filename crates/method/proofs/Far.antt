@@ -1,6 +1,5 @@
 -- How far a run has come, however messages travel: nodes started and messages handed over. Neither is ever undone, and there is room for so
 -- many of both.
--- Assumes nothing.
 use mathlib.Core.Path.{_≡_, refl, sym, subst}
 use mathlib.Core.Logic.{_⊎_, inl, inr}
 use mathlib.Core.Bool.{Bool, true, false}

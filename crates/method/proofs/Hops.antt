@@ -1,5 +1,4 @@
 -- Following first hops reaches the target: law f.
--- Assumes nothing.
 use mathlib.Core.Path.{_≡_, refl, sym, ap, subst, _∙_}
 use mathlib.Core.Logic.{_⊎_, inl, inr, _≢_}
 use mathlib.Core.Bool.{Bool, true, false}
@@ -15,9 +14,9 @@ use Rattle.method.specs.Steps.{Step}
 use Rattle.method.specs.Entries.{known, entryOf, nodes, entry}
 use Rattle.method.specs.Laws.{Leads, arrived, hop}
 use Rattle.method.specs.Distinct.{Among}
-use Rattle.method.proofs.Sent.{Labelled}
+use Rattle.method.specs.Invariant.{Has, Labelled}
 use Rattle.method.proofs.Chains.{own-distance}
-use Rattle.method.proofs.Table.{Has, has-entry}
+use Rattle.method.proofs.Table.{has-entry}
 use Rattle.method.proofs.Lawful.{Lawful}
 use Rattle.method.proofs.Always.{run-lawful}
 use Rattle.method.proofs.Said.{known-filled, filled-known, filled-is-right, hop-zero}

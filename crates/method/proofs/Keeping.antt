@@ -1,6 +1,5 @@
 -- What each act of a node keeps, a turn keeps. A law of this kind has five cases, and says nothing of turns, of the work, or of how
 -- messages travel.
--- Assumes nothing.
 use mathlib.Core.Path.{_≡_, refl, subst}
 use mathlib.Core.Bool.{Bool, true, false, cond}
 use mathlib.Core.Option.{Option, none, some}
@@ -11,10 +10,10 @@ use Rattle.method.specs.Message.{Msg, label, len, end, item}
 use Rattle.method.specs.Rules.{started, Node, has, Choice, rule₁, stop, wait, fill, Go}
 use Rattle.method.specs.Rules.{Turn, rests, took, rule₂, rule₃, rule₄, beyond, turn}
 use Rattle.method.specs.Work.{asleep, begun}
-use Rattle.method.proofs.Sent.{labels, Good}
+use Rattle.method.specs.Invariant.{Has, labels, Good, Ok}
 use Rattle.method.proofs.Choosing.{rule₁-ok}
-use Rattle.method.proofs.Table.{Has, has-false}
-use Rattle.method.proofs.View.{Chooses, Ok}
+use Rattle.method.proofs.Table.{has-false}
+use Rattle.method.proofs.View.{Chooses}
 use Rattle.method.proofs.Again.{Held, turn-held, beyond-false}
 
 -- node i is at rule 3 with the choice p

@@ -1,5 +1,4 @@
 -- The first hop of each record is its target, or has an earlier record that goes straight to it: law n.
--- Assumes nothing.
 use mathlib.Core.Path.{_≡_, refl, sym, ap, subst, _∙_}
 use mathlib.Core.Logic.{_⊎_, inl, inr, _≢_}
 use mathlib.Core.Bool.{Bool, true, false, cond}
@@ -13,7 +12,8 @@ use Rattle.method.specs.Distance.{Chain, here, via, Starts, FirstHop, Ri
 use Rattle.method.specs.Rules.{Filled, Node}
 use Rattle.method.specs.Entries.{others, recordsOf}
 use Rattle.method.specs.Order.{Direct, AllLed}
-use Rattle.method.proofs.Table.{In, Has, has-entry}
+use Rattle.method.specs.Invariant.{In, Has}
+use Rattle.method.proofs.Table.{has-entry}
 use Rattle.method.proofs.Lawful.{Lawful}
 use Rattle.method.proofs.Order.{Canon, nothing, itself, next, canon-own}
 use Rattle.method.proofs.Same.{canon-of}

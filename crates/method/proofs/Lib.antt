@@ -1,4 +1,5 @@
 pub mod Numbers
+pub mod EntryNumbers
 pub mod Room
 pub mod Chains
 pub mod Sent
@@ -34,6 +35,8 @@ pub mod Taken
 pub mod Ends
 pub mod Enough
 pub mod Proved
+pub mod Following
+pub mod RouteLaws
 pub mod Requests
 pub mod Example
 pub mod Reached

@@ -1,6 +1,5 @@
 -- The test for a loop of zero arcs answers exactly whether there is one; and where there is none, each zero arc leads to a node of less
 -- depth.
--- Assumes nothing.
 use mathlib.Core.Path.{_≡_, refl, sym, ap, subst, _∙_}
 use mathlib.Core.Logic.{_⊎_, inl, inr, _↔_}
 use mathlib.Core.Bool.{Bool, true, false, _&&_, _||_, true≢false, false≢true}

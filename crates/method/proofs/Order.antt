@@ -1,5 +1,4 @@
 -- The order in which a node fills its entries is the same in every run, with arcs of length 0 too. Tables are newest first.
--- Assumes nothing.
 use mathlib.Core.Path.{_≡_, refl, sym, ap, subst, _∙_}
 use mathlib.Core.Logic.{_⊎_, inl, inr}
 use mathlib.Core.List.{List, [], _∷_, _++_, append-nil}
@@ -9,8 +8,8 @@ use Rattle.method.specs.Network.{Net, IsArc, Valid, Ranked}
 use Rattle.method.specs.Distance.{Chain, Starts}
 use Rattle.method.specs.Rules.{Filled}
 use Rattle.method.specs.Order.{Begins}
+use Rattle.method.specs.Invariant.{Has}
 use Rattle.method.proofs.Choosing.{Before}
-use Rattle.method.proofs.Table.{Has}
 
 -- of all nodes without entry in es, and of all ways to them, e is the first: by distance, then by the hop's rank
 pub record First (net : Net) (i : ℕ) (es : List Filled) (e : Filled) : Type 0 where

@@ -1,6 +1,5 @@
 -- While a node has not stopped, some node can start or some arc has a message to deliver, however messages travel. So some step can be
 -- taken: laws e and p.
--- Assumes nothing.
 use mathlib.Core.Path.{_≡_, refl, sym, ap, subst, _∙_}
 use mathlib.Core.Logic.{_⊎_, inl, inr}
 use mathlib.Core.Bool.{Bool, true, false}
@@ -19,10 +18,10 @@ use Rattle.method.specs.Rules.{Phase, unstarted, started, stopped, Node,
 use Rattle.method.specs.Work.{heard, next}
 use Rattle.method.specs.Steps.{State, sents, Step, start, deliver, byteStep, node, arc, taken, starting, step, run}
 use Rattle.method.specs.Entries.{nodes, Stopped}
+use Rattle.method.specs.Invariant.{Waiting}
 use Rattle.method.proofs.Sent.{item-lastLen}
 use Rattle.method.proofs.Choosing.{rule₁-ok}
 use Rattle.method.proofs.View.{Chooses}
-use Rattle.method.proofs.Turns.{Waiting}
 use Rattle.method.proofs.Oldest.{oldest-all, next-none}
 use Rattle.method.proofs.Runs.{run-ok}
 use Rattle.method.proofs.Lawful.{Lawful}

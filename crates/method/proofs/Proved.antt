@@ -1,5 +1,4 @@
 -- Laws a to k hold of every network.
--- Assumes nothing.
 use mathlib.Core.List.{_++_}
 use Rattle.method.specs.Network.{Net}
 use Rattle.method.specs.Laws.{Laws}

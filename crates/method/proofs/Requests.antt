@@ -1,5 +1,4 @@
 -- Laws l to p hold of every network.
--- Assumes nothing.
 use mathlib.Core.Path.{ap}
 use Rattle.method.specs.Network.{Net}
 use Rattle.method.specs.Entries.{others, nodes}

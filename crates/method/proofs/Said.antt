@@ -1,5 +1,4 @@
 -- What an entry says, however messages travel: laws a, b, c, d and h.
--- Assumes nothing.
 use mathlib.Core.Path.{_≡_, refl, sym, ap, ap₂, subst, _∙_}
 use mathlib.Core.Logic.{_⊎_, inl, inr, _≢_, _↔_}
 use mathlib.Core.Option.{Option, none, some}
@@ -12,9 +11,10 @@ use Rattle.method.specs.Message.{Msg, end}
 use Rattle.method.specs.Rules.{Filled, Phase, unstarted, started, stopped, Node}
 use Rattle.method.specs.Entries.{Entry, unknown, unreachable, known, find, said, entryOf}
 use Rattle.method.specs.Distinct.{Among, Distinct}
-use Rattle.method.proofs.Sent.{Labelled, Good, labels-distinct}
+use Rattle.method.specs.Invariant.{In, Has, Labelled, Good}
+use Rattle.method.proofs.Sent.{labels-distinct}
 use Rattle.method.proofs.Chains.{own-distance, same-distance, same-hop}
-use Rattle.method.proofs.Table.{In, Has, Once, has-entry, in-has, in-more, Found, find-ok, find-in}
+use Rattle.method.proofs.Table.{Once, has-entry, in-has, in-more, Found, find-ok, find-in}
 use Rattle.method.proofs.Turns.{stage, Later}
 use Rattle.method.proofs.Lawful.{Lawful}
 

@@ -1,6 +1,5 @@
 -- Every run, however messages travel, fills a node's table in the order of `Canon`, so of the records of two runs one list is the beginning
 -- of the other: law m.
--- Assumes nothing.
 use mathlib.Core.Path.{_≡_, refl, sym, ap, subst, _∙_}
 use mathlib.Core.Logic.{_⊎_, inl, inr}
 use mathlib.Core.Bool.{Bool, true, false, cond}
@@ -14,8 +13,8 @@ use Rattle.method.specs.Rules.{Filled, stopped, Node, Choice, fill}
 use Rattle.method.specs.Entries.{others, recordsOf}
 use Rattle.method.specs.Order.{Begins}
 use Rattle.method.specs.Distinct.{Among}
-use Rattle.method.proofs.Sent.{labels}
-use Rattle.method.proofs.Table.{In, Has, Once, targets}
+use Rattle.method.specs.Invariant.{In, targets, Has, labels}
+use Rattle.method.proofs.Table.{Once}
 use Rattle.method.proofs.View.{started-unstarted}
 use Rattle.method.proofs.Acts.{first, starts}
 use Rattle.method.proofs.Keeping.{Acting, Told, Keeps}

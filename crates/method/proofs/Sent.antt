@@ -1,5 +1,4 @@
 -- A node's sent list: what each message of it says of the chains, and what sending a length leaves as it was.
--- Assumes nothing.
 use mathlib.Core.Path.{_≡_, refl, sym, ap, subst, _∙_}
 use mathlib.Core.Logic.{_⊎_, inl, inr, _≢_}
 use mathlib.Core.Bool.{Bool, true, false, cond}
@@ -13,25 +12,7 @@ use Rattle.method.specs.Network.{Arc}
 use Rattle.method.specs.Distance.{Chain, Distance}
 use Rattle.method.specs.Message.{Msg, label, len, end, Item, finite, infinite, lastLen, item, sendLen}
 use Rattle.method.specs.Distinct.{Among, Distinct}
-
--- the labels of a list, and how many lengths and ends it has
-abbrev pub labels : List Msg → List ℕ
-labels [] = []
-labels (label y ∷ s) = y ∷ labels s
-labels (len x ∷ s) = labels s
-labels (end ∷ s) = labels s
-
-abbrev pub lengths : List Msg → ℕ
-lengths [] = 0
-lengths (label y ∷ s) = lengths s
-lengths (len x ∷ s) = suc (lengths s)
-lengths (end ∷ s) = lengths s
-
-abbrev pub ends : List Msg → ℕ
-ends [] = 0
-ends (label y ∷ s) = ends s
-ends (len x ∷ s) = ends s
-ends (end ∷ s) = suc (ends s)
+use Rattle.method.specs.Invariant.{labels, lengths, ends, Labelled, Complete, Good}
 
 pub parts : (s : List Msg) → length s ≡ length (labels s) + lengths s + ends s
 parts [] = refl
@@ -44,20 +25,6 @@ labels-append [] s = refl
 labels-append (label y ∷ g) s = ap (λ (r : List ℕ). y ∷ r) (labels-append g s)
 labels-append (len x ∷ g) s = labels-append g s
 labels-append (end ∷ g) s = labels-append g s
-
-abbrev pub Labelled : ℕ → List Msg → Type 0
-Labelled y s = Among y (labels s)
-
--- every node nearer to j than x is labelled
-abbrev pub Complete : List Arc → ℕ → ℕ → List Msg → Type 0
-Complete ar j x s = (y d : ℕ) → Chain ar j y d → d < x → Labelled y s
-
--- A label is new and as far from j as the length in force; a length rises, and all that is nearer is labelled; before the end all is.
-abbrev pub Good : List Arc → ℕ → List Msg → Type 0
-Good ar j [] = Unit {0}
-Good ar j (label y ∷ s) = Good ar j s × Distance ar j y (lastLen s) × (Labelled y s → ⊥)
-Good ar j (len x ∷ s) = Good ar j s × (lastLen s < x) × Complete ar j x s
-Good ar j (end ∷ s) = Good ar j s × ((y d : ℕ) → Chain ar j y d → Labelled y s)
 
 pub good-tail : (ar : List Arc) (j : ℕ) (m : Msg) (s : List Msg) → Good ar j (m ∷ s) → Good ar j s
 good-tail ar j (label y) s g = g .0

@@ -1,5 +1,4 @@
 -- What each act of a node keeps, its work keeps. `ss j` is the sequence of its arc to j, whatever part of j's sent list that is.
--- Assumes nothing.
 use mathlib.Core.Path.{_≡_, sym, ap, _∙_}
 use mathlib.Core.Option.{some}
 use mathlib.Core.List.{List, _∷_, _++_, append-assoc}
@@ -10,13 +9,13 @@ use Rattle.method.specs.Network.{Net, Valid}
 use Rattle.method.specs.Message.{Msg, label, item, oldest}
 use Rattle.method.specs.Rules.{Phase, unstarted, started, stopped, Node, Go, to₁, Turn, rests, took}
 use Rattle.method.specs.Work.{Site, heard, next, turnAt, tookOne, goOn, turns, allowed, work, worksOn}
-use Rattle.method.proofs.Sent.{labels, labels-append, Good}
-use Rattle.method.proofs.View.{Ok}
+use Rattle.method.specs.Invariant.{labels, Good, Ok, SiteOk}
+use Rattle.method.proofs.Sent.{labels-append}
 use Rattle.method.proofs.Again.{Held}
 use Rattle.method.proofs.Turns.{Turned}
 use Rattle.method.proofs.Keeping.{Told, Keeps, After, turn-keeps}
 use Rattle.method.proofs.Oldest.{oldest-suc, good-oldest, next-some}
-use Rattle.method.proofs.Working.{SiteOk, coming, turnAt-ok, took-ok, took-held}
+use Rattle.method.proofs.Working.{coming, turnAt-ok, took-ok, took-held}
 
 -- node j, of which P holds, has sent the labels of the sequence s first
 pub record Source (net : Net) (P : ℕ → Node → Type 0) (j : ℕ) (s : List Msg) : Type 0 where

@@ -1,5 +1,4 @@
 -- How many steps can be taken, law o: each starts a node or hands over a message.
--- Assumes nothing.
 use mathlib.Core.Path.{_≡_, refl, sym, ap, subst}
 use mathlib.Core.Bool.{Bool}
 use mathlib.Core.List.{List, [], _∷_}
@@ -13,9 +12,10 @@ use Rattle.method.specs.Work.{Site, became, work, begun}
 use Rattle.method.specs.Steps.{State, sents, fresh, Step, Named, node, names, Kind, taken, idle, unknown, starting, carriedOut, step}
 use Rattle.method.specs.Steps.{runFrom, run, Counts, counted, countsFrom, counts}
 use Rattle.method.specs.Entries.{nodes}
+use Rattle.method.specs.Invariant.{Inv}
 use Rattle.method.proofs.Far.{starts, far, farthest, far-few, starts-le, far-le, far-on, named}
 use Rattle.method.proofs.Working.{work-ok}
-use Rattle.method.proofs.Runs.{Inv, begun-site, true-lists, fresh-ok, step-ok, run-ok}
+use Rattle.method.proofs.Runs.{begun-site, true-lists, fresh-ok, step-ok, run-ok}
 use Rattle.method.proofs.Always.{run-lawful}
 use Rattle.method.proofs.Bounded.{sent-bound}
 use Rattle.method.proofs.Counted.{step-counts}

@@ -1,6 +1,5 @@
 -- How much a node sends at most, law l: the lengths sent lie between that of the shortest arc and the last one, and the first record is
 -- no farther than the shortest arc is long.
--- Assumes nothing.
 use mathlib.Core.Path.{_≡_, refl, sym, ap, subst, _∙_}
 use mathlib.Core.Logic.{inl, inr, _≢_}
 use mathlib.Core.Option.{Option, none, some}
@@ -13,27 +12,15 @@ use Rattle.method.specs.Network.{Net, IsNode, IsArc, Valid}
 use Rattle.method.specs.Distance.{here, via}
 use Rattle.method.specs.Message.{Msg, label, len, end, finite, lastLen, sendLen}
 use Rattle.method.specs.Rules.{Filled, Node, Choice, rule₁}
-use Rattle.method.proofs.Sent.{lengths, ends, Sending, sending, sendLen-last, parts}
+use Rattle.method.specs.Invariant.{Has, lengths, ends, endsSent, Ok, AtLeast, Spread}
+use Rattle.method.proofs.Sent.{Sending, sending, sendLen-last, parts}
 use Rattle.method.proofs.Choosing.{Before, Chosen, rule₁-ok}
-use Rattle.method.proofs.Table.{Has, targets-length}
-use Rattle.method.proofs.View.{endsSent, Ok, started-unstarted}
+use Rattle.method.proofs.Table.{targets-length}
+use Rattle.method.proofs.View.{started-unstarted}
 use Rattle.method.proofs.Acts.{near, floor}
 use Rattle.method.proofs.Keeping.{Acting, Keeps}
 use Rattle.method.proofs.Lawful.{Lawful}
 use Rattle.method.proofs.Bounded.{ends-le, table-few}
-
--- no arc from i is shorter than m
-abbrev pub AtLeast : Net → ℕ → ℕ → Type 0
-AtLeast net i m = (j l : ℕ) → IsArc (net .arcs) i j l → m ≤ l
-
--- what bounds the lengths that node i sends
-pub record Spread (net : Net) (i : ℕ) (nd : Node) : Type 0 where
-  -- a sum beyond LP + LMAX is never sent
-  pub last-le : lastLen (nd .sent) ≤ nd .lp + net .lmax
-  -- the first entry beside its own is no farther than any arc is long, and each next one LMAX farther at most
-  pub lp-le : (j l : ℕ) → IsArc (net .arcs) i j l → nd .lp ≤ l + (length (nd .table) - 2) * net .lmax
-  -- lengths rise, and each is a sum with an arc's length in it: so they are as many as there are numbers from the shortest to the last
-  pub many : (m : ℕ) → AtLeast net i m → lengths (nd .sent) ≤ suc (lastLen (nd .sent)) - m
 
 -- a length of m or more, no less than the last
 sendLen-many : (s : List Msg) (x m : ℕ) → lengths s ≤ suc (lastLen s) - m → lastLen s ≤ x → m ≤ x → lengths (sendLen s x) ≤ suc x - m

@@ -1,5 +1,4 @@
 -- Following first hops reaches the target and passes no node twice, where no loop consists of zero arcs only: law p.
--- Assumes nothing.
 use mathlib.Core.Path.{_≡_, refl, sym, ap, subst, _∙_}
 use mathlib.Core.Logic.{inl, inr}
 use mathlib.Core.Bool.{Bool, true, false}

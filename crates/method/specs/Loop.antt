@@ -1,5 +1,4 @@
 -- Request K9, "Wired links that cost nothing": loops of zero arcs, the test for one, and the way along first hops.
--- Assumes nothing.
 use mathlib.Core.Path.{_≡_}
 use mathlib.Core.Bool.{Bool, true, false, _&&_, _||_}
 use mathlib.Core.List.{List, [], _∷_}

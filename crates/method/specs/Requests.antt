@@ -1,6 +1,5 @@
 -- What is proved of the method for later requests, for every step list: laws l to p. As in laws a to k, each says what it asks of the
 -- network; none asks for positive lengths.
--- Assumes nothing.
 use mathlib.Core.Path.{_≡_}
 use mathlib.Core.Logic.{_⊎_, _↔_}
 use mathlib.Core.Bool.{true}

@@ -1,5 +1,4 @@
 -- Starting a node and delivering on an arc, as the code does it, are the method's.
--- Assumes nothing.
 use mathlib.Core.Path.{_≡_, refl, sym, ap, subst, _∙_}
 use mathlib.Core.Logic.{_≢_}
 use mathlib.Core.Bool.{Bool, true, false, cond}
@@ -14,24 +13,25 @@ use Rattle.method.specs.Message.{Msg}
 use Rattle.method.specs.Rules.{Phase, unstarted, started, stopped, Choice}
 use Rattle.method.specs.Work.{Site, became, work, worksOn, begun}
 use Rattle.method.specs.Steps.{sents, put, Kind, taken, idle, Stepped, starting, handed, delivering}
-use Rattle.method.proofs.Working.{SiteOk, work-ok}
+use Rattle.method.specs.Invariant.{SiteOk, Spread}
+use Rattle.method.proofs.Working.{work-ok}
 use Rattle.method.proofs.Runs.{begun-site, handed-site}
-use Rattle.method.proofs.Tight.{Spread, spread}
-use Rattle.network.specs.Layout.{netOf, Laid}
-use Rattle.cells.specs.Part.{Part, tableSize, phaseAt, sentCount, entryCount, waitsAt, deliveredAt, sumsAt, phaseOf, siteOf, stateOf}
-use Rattle.cells.specs.Stores.{Stored, counted, begun as begunPart}
-use Rattle.cells.specs.Caches.{Caches}
-use Rattle.cells.proofs.Lists.{sent-length, table-length}
-use Rattle.cells.proofs.Stored.{at}
-use Rattle.cells.proofs.Meaning.{counted-else, row-at, delivered-site, begin-site}
-use Rattle.cells.proofs.Caching.{begin-caches, hand-caches}
-use Rattle.node.specs.Rules.{least, IsChoice}
-use Rattle.node.specs.Working.{Working, Waits, Worked}
-use Rattle.node.proofs.Least.{least-same, least-at}
+use Rattle.method.proofs.Tight.{spread}
+use Rattle.network.specs.Layout.{nodesAt, netOf, Laid}
+use Rattle.run_cells.specs.Part.{Part, tableSize, phaseAt, sentCount, entryCount, waitsAt, deliveredAt, sumsAt, phaseNamed, siteOf, stateOf}
+use Rattle.run_cells.specs.Stores.{Stored, raised, begunPart}
+use Rattle.run_cells.specs.Caches.{Caches}
+use Rattle.run_cells.proofs.Lists.{sent-length, table-length}
+use Rattle.run_cells.proofs.Stored.{at}
+use Rattle.run_cells.proofs.Meaning.{counted-else, row-at, delivered-site, begin-site}
+use Rattle.run_cells.proofs.Caching.{begin-caches, hand-caches}
+use Rattle.run_node.specs.Rules.{least, IsChoice}
+use Rattle.run_node.specs.Working.{Working, WaitsFor, Worked}
+use Rattle.run_node.proofs.Least.{least-same, least-at}
 use Rattle.run.specs.Resting.{Resting, Acted}
 use Rattle.run.proofs.Rested.{put-state, table-low, i-node, ready, still}
 
-module _ (g : List ℕ) (la : Laid g) (m : ℕ → Part) (re : Resting g m) (i : ℕ) (node : IsNode (getD g 0 0) i) where
+module _ (g : List ℕ) (la : Laid g) (m : ℕ → Part) (re : Resting g m) (i : ℕ) (node : IsNode (getD g nodesAt 0) i) where
   abbrev ss : ℕ → List Msg
   ss = sents (stateOf m)
 
@@ -72,7 +72,7 @@ module _ (g : List ℕ) (la : Laid g) (m : ℕ → Part) (re : Resting g m) (i :
         }
 
   -- "A step for a node already started"
-  pub started-already : m i phaseAt ≢ 0 → Acted g m i m idle (starting (phaseOf (m i phaseAt)) (netOf g) (stateOf m) i)
+  pub started-already : m i phaseAt ≢ 0 → Acted g m i m idle (starting (phaseNamed (m i phaseAt)) (netOf g) (stateOf m) i)
   started-already ne = subst
       (λ (b : Bool). Acted g m i m idle
       (starting (cond b unstarted (cond (eqb (m i phaseAt) 1) started stopped)) (netOf g) (stateOf m) i))
@@ -83,8 +83,8 @@ module _ (g : List ℕ) (la : Laid g) (m : ℕ → Part) (re : Resting g m) (i :
       go false = unchanged idle (record { kind = idle; state = stateOf m }) refl refl
 
   module _ (z : m i phaseAt ≡ 0) where
-    asleep : phaseOf (m i phaseAt) ≡ unstarted
-    asleep = ap phaseOf z
+    asleep : phaseNamed (m i phaseAt) ≡ unstarted
+    asleep = ap phaseNamed z
 
     pub blank-sent : m i sentCount ≡ 0
     blank-sent = sym (sent-length (m i) (m i sentCount)) ∙ ap length (re .inv i .site .ok .blank asleep .0)
@@ -105,7 +105,7 @@ module _ (g : List ℕ) (la : Laid g) (m : ℕ → Part) (re : Resting g m) (i :
           working m₁ (begunPart (m i) i) st (became (siteOf (m i)) (begun i)) begun-is
           (begun-site (netOf g) (stateOf m) (re .inv) i asleep) refl (spread (netOf g) (la .accepted .valid) .at-start i) begun-caches
 
-      pub started-now : (n : ℕ → Part) → Worked g m₁ i n → Acted g m i n taken (starting (phaseOf (m i phaseAt)) (netOf g) (stateOf m) i)
+      pub started-now : (n : ℕ → Part) → Worked g m₁ i n → Acted g m i n taken (starting (phaseNamed (m i phaseAt)) (netOf g) (stateOf m) i)
       started-now n w =
           subst (λ (ph : Phase). Acted g m i n taken (starting ph (netOf g) (stateOf m) i)) (sym asleep)
           (worked m₁ (begunPart (m i) i) st (became (siteOf (m i)) (begun i)) begun-is
@@ -113,7 +113,7 @@ module _ (g : List ℕ) (la : Laid g) (m : ℕ → Part) (re : Resting g m) (i :
           n w)
 
   -- a delivery on the arc to h
-  module _ (h : ℕ) (head : IsNode (getD g 0 0) h) where
+  module _ (h : ℕ) (head : IsNode (getD g nodesAt 0) h) where
     abbrev Delivers : (ℕ → Part) → Kind → Type 0
     Delivers n k = Acted g m i n k (delivering (netOf g) (stateOf m) i h)
 
@@ -129,34 +129,34 @@ module _ (g : List ℕ) (la : Laid g) (m : ℕ → Part) (re : Resting g m) (i :
         subst (λ (b : Bool). Acted g m i m idle
         (cond b (record {
           kind = taken;
-          state = put (stateOf m) i (worksOn (phaseOf (m i phaseAt)) (netOf g) i ss (handed (siteOf (m i)) h));
+          state = put (stateOf m) i (worksOn (phaseNamed (m i phaseAt)) (netOf g) i ss (handed (siteOf (m i)) h));
         })
         (record { kind = idle; state = stateOf m })))
         (sym (test ∙ le-ltb (m i (deliveredAt + h)) (m h sentCount) le))
         (unchanged idle (record { kind = idle; state = stateOf m }) refl refl)
 
-    module _ (lt : m i (deliveredAt + h) < m h sentCount) (m₁ : ℕ → Part) (st : Stored m i (counted (m i) (deliveredAt + h)) m₁) where
-      handed-is : siteOf (counted (m i) (deliveredAt + h)) ≡ handed (siteOf (m i)) h
+    module _ (lt : m i (deliveredAt + h) < m h sentCount) (m₁ : ℕ → Part) (st : Stored m i (raised (m i) (deliveredAt + h)) m₁) where
+      handed-is : siteOf (raised (m i) (deliveredAt + h)) ≡ handed (siteOf (m i)) h
       handed-is = delivered-site (m i) h h-low
 
       ok : SiteOk (netOf g) i ss (handed (siteOf (m i)) h)
       ok = handed-site (netOf g) (stateOf m) (re .inv) i h
           (omega (arith, row-at (m i) deliveredAt h h-low, sent-length (m h) (m h sentCount)))
 
-      handed-caches : Caches g i ss (counted (m i) (deliveredAt + h))
+      handed-caches : Caches g i ss (raised (m i) (deliveredAt + h))
       handed-caches = hand-caches g i ss (m i) h h-low (table-low g la m re i node) (re .caches i (i-node g la m re i node))
 
       -- what delivering comes to
       delivers : (n : ℕ → Part)
           → Acted g m i n taken (record {
             kind = taken;
-            state = put (stateOf m) i (worksOn (phaseOf (m i phaseAt)) (netOf g) i ss (handed (siteOf (m i)) h));
+            state = put (stateOf m) i (worksOn (phaseNamed (m i phaseAt)) (netOf g) i ss (handed (siteOf (m i)) h));
           }) → Delivers n taken
       delivers n a =
           subst (λ (b : Bool). Acted g m i n taken
           (cond b (record {
             kind = taken;
-            state = put (stateOf m) i (worksOn (phaseOf (m i phaseAt)) (netOf g) i ss (handed (siteOf (m i)) h));
+            state = put (stateOf m) i (worksOn (phaseNamed (m i phaseAt)) (netOf g) i ss (handed (siteOf (m i)) h));
           })
           (record { kind = idle; state = stateOf m })))
           (sym (test ∙ lt-ltb (m i (deliveredAt + h)) (m h sentCount) lt)) a
@@ -164,7 +164,7 @@ module _ (g : List ℕ) (la : Laid g) (m : ℕ → Part) (re : Resting g m) (i :
       pub same-place : (o : ℕ) → o < deliveredAt → m₁ i o ≡ m i o
       same-place o l = at st o ∙ counted-else (m i) (deliveredAt + h) o (omega arith)
 
-      waits-same : Waits (m₁ i)
+      waits-same : WaitsFor (m₁ i)
       waits-same up =
           same-place waitsAt (omega arith) ∙ re .waits i (sym (same-place phaseAt (omega arith)) ∙ up)
           ∙ sym (ap (λ (c : Choice). c .head)
@@ -172,13 +172,13 @@ module _ (g : List ℕ) (la : Laid g) (m : ℕ → Part) (re : Resting g m) (i :
           (λ k l. at st (sumsAt + k) ∙ counted-else (m i) (deliveredAt + h) (sumsAt + k) (omega (arith, h-low)))))
 
       -- the message is kept, and nothing else happens
-      kept-there : worksOn (phaseOf (m i phaseAt)) (netOf g) i ss (handed (siteOf (m i)) h) ≡ handed (siteOf (m i)) h → Delivers m₁ taken
+      kept-there : worksOn (phaseNamed (m i phaseAt)) (netOf g) i ss (handed (siteOf (m i)) h) ≡ handed (siteOf (m i)) h → Delivers m₁ taken
       kept-there e =
           let is : siteOf (m₁ i) ≡ handed (siteOf (m i)) h = ap siteOf (st .here) ∙ handed-is in
           delivers m₁
           (record {
             kind = refl;
-            state = put-state m m₁ i (st .there) (worksOn (phaseOf (m i phaseAt)) (netOf g) i ss (handed (siteOf (m i)) h)) (is ∙ sym e);
+            state = put-state m m₁ i (st .there) (worksOn (phaseNamed (m i phaseAt)) (netOf g) i ss (handed (siteOf (m i)) h)) (is ∙ sym e);
             there = st .there;
             taken-le = λ k. omega (arith, ap (λ (x : Site). x .taken k) is, re .inv i .site .taken-le k, re .inv i .site .delivered-le k);
             caches = subst (λ (p : Part). Caches g i ss p) (sym (st .here)) handed-caches;
@@ -196,8 +196,8 @@ module _ (g : List ℕ) (la : Laid g) (m : ℕ → Part) (re : Resting g m) (i :
           go false false f = refl
 
       module _ (up : m i phaseAt ≡ 1) where
-        awake : phaseOf (m i phaseAt) ≡ started
-        awake = ap phaseOf up
+        awake : phaseNamed (m i phaseAt) ≡ started
+        awake = ap phaseNamed up
 
         waits-on : m i waitsAt ≢ h → Delivers m₁ taken
         waits-on ne =
@@ -205,7 +205,7 @@ module _ (g : List ℕ) (la : Laid g) (m : ℕ → Part) (re : Resting g m) (i :
             ∙ still g la m re i node awake h (λ q. ne (re .waits i up ∙ q)))
 
         pub delivery-working : Working g m₁ i
-        delivery-working = working m₁ (counted (m i) (deliveredAt + h)) st (handed (siteOf (m i)) h) handed-is ok awake
+        delivery-working = working m₁ (raised (m i) (deliveredAt + h)) st (handed (siteOf (m i)) h) handed-is ok awake
             (re .spread i) handed-caches
 
         -- the arc that it waits for is the one that rule 1 chooses
@@ -219,7 +219,7 @@ module _ (g : List ℕ) (la : Laid g) (m : ℕ → Part) (re : Resting g m) (i :
         works-on n w =
             delivers n (subst (λ (ph : Phase). Acted g m i n taken
             (record { kind = taken; state = put (stateOf m) i (worksOn ph (netOf g) i ss (handed (siteOf (m i)) h)) })) (sym awake)
-            (worked m₁ (counted (m i) (deliveredAt + h)) st (handed (siteOf (m i)) h) handed-is ok awake (re .spread i) handed-caches n w))
+            (worked m₁ (raised (m i) (deliveredAt + h)) st (handed (siteOf (m i)) h) handed-is ok awake (re .spread i) handed-caches n w))
 
       pub waits-elsewhere : m i waitsAt ≢ h → Delivers m₁ taken
       waits-elsewhere ne = go (eqb (m i phaseAt) 1) refl

@@ -1,5 +1,4 @@
 -- The array as `clear` leaves it: the state before the first step, at rest.
--- Assumes nothing.
 use mathlib.Core.Path.{_≡_, refl, sym, ap, subst, _∙_, fun-ext}
 use mathlib.Core.Bool.{Bool, true, false, cond}
 use mathlib.Core.List.{List, []}
@@ -12,13 +11,14 @@ use Rattle.method.specs.Message.{Msg, finite, lastLen, item, oldest}
 use Rattle.method.specs.Work.{Site}
 use Rattle.method.specs.Steps.{State, sents, fresh}
 use Rattle.method.specs.Entries.{find}
-use Rattle.method.proofs.Runs.{Inv, fresh-ok}
-use Rattle.method.proofs.Tight.{Spread, spread}
+use Rattle.method.specs.Invariant.{Inv, Spread}
+use Rattle.method.proofs.Runs.{fresh-ok}
+use Rattle.method.proofs.Tight.{spread}
 use Rattle.network.specs.Layout.{lenAt, netOf, Laid}
-use Rattle.cells.specs.Part.{Part, tableSize, nodesMost, phaseAt, sentCount, entryCount, lpAt, lastAt, deliveredAt, takenAt, sumsAt}
-use Rattle.cells.specs.Part.{marksAt, targetsAt, partSize, stateSize, cells, row, sumOf, siteOf, stateOf, marked}
-use Rattle.cells.specs.Stores.{zeroed, laidOut, cleared}
-use Rattle.cells.specs.Caches.{Caches}
+use Rattle.run_cells.specs.Part.{Part, tableSize, nodesMost, phaseAt, sentCount, entryCount, lpAt, lastAt, deliveredAt, takenAt, sumsAt}
+use Rattle.run_cells.specs.Part.{marksAt, targetsAt, partSize, stateSize, cells, row, sumOf, siteOf, stateOf, entryMarked}
+use Rattle.run_cells.specs.Stores.{zeroed, withSums, cleared}
+use Rattle.run_cells.specs.Caches.{Caches}
 use Rattle.run.specs.Resting.{Resting}
 
 nothing-old : (t : ℕ) → oldest t [] ≡ []
@@ -34,7 +34,7 @@ beyond l j o size le = go (ltb o partSize)
 
 module _ (g : List ℕ) (l : List ℕ) (size : length l ≡ stateSize) (m : ℕ → Part) (e : m ≡ cleared g (cells l) nodesMost) where
   abbrev new : ℕ → Part
-  new j = laidOut g j (zeroed (cells l j) targetsAt) tableSize
+  new j = withSums g j (zeroed (cells l j) targetsAt) tableSize
 
   part-is : (j : ℕ) → (1 ≤ j) × (j < tableSize) → m j ≡ new j
   part-is zero lt = absurd (omega (arith, lt))
@@ -105,7 +105,7 @@ module _ (g : List ℕ) (l : List ℕ) (size : length l ≡ stateSize) (m : ℕ 
         marks =
             λ y l. (
               omega (arith, at (marksAt + y), new-mark j y l),
-              ap (λ (s : Site). find y (s .node .table)) (sites j) ∙ sym (ap (marked (m j)) (at (marksAt + y) ∙ new-mark j y l)),
+              ap (λ (s : Site). find y (s .node .table)) (sites j) ∙ sym (ap (entryMarked (m j)) (at (marksAt + y) ∙ new-mark j y l)),
             );
         sums =
             λ h l. at (sumsAt + h) ∙ new-sum j h l

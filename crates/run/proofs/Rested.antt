@@ -1,5 +1,4 @@
 -- What is known of a node between two steps: its numbers are in range, and it may be put to work.
--- Assumes nothing.
 use mathlib.Core.Path.{_≡_, refl, sym, ap, subst, _∙_, fun-ext}
 use mathlib.Core.Logic.{_≢_}
 use mathlib.Core.Bool.{Bool, true, false, cond}
@@ -15,24 +14,24 @@ use Rattle.method.specs.Message.{Msg, len, lastLen, item, sentAfter}
 use Rattle.method.specs.Rules.{started, to₁, to₃, rests, rule₃, turn}
 use Rattle.method.specs.Work.{Site, heard, next, turnAt, work}
 use Rattle.method.specs.Steps.{sents, put, handed}
+use Rattle.method.specs.Invariant.{Waiting, SiteOk, Spread}
 use Rattle.method.proofs.Again.{turn-held}
-use Rattle.method.proofs.Turns.{Waiting}
-use Rattle.method.proofs.Working.{SiteOk, work-ok}
+use Rattle.method.proofs.Working.{work-ok}
 use Rattle.method.proofs.Steady.{work-keeps}
 use Rattle.method.proofs.Always.{sources}
 use Rattle.method.proofs.Bounded.{ends-le}
-use Rattle.method.proofs.Tight.{Spread, spread}
+use Rattle.method.proofs.Tight.{spread}
 use Rattle.method.proofs.Enough.{work-rests}
-use Rattle.network.specs.Layout.{netOf, Laid}
-use Rattle.cells.specs.Part.{Part, entryMost, tableSize, sentMost, sentCount, entryCount, siteOf, stateOf}
-use Rattle.cells.specs.Stores.{Stored}
-use Rattle.cells.specs.Caches.{Caches}
-use Rattle.cells.proofs.Stored.{kept}
-use Rattle.cells.proofs.Lists.{sent-length, table-length}
-use Rattle.node.specs.Rules.{least}
-use Rattle.node.specs.Working.{Fits, Ready}
-use Rattle.node.proofs.Limits.{few-entries, sent-fits, last-short}
-use Rattle.node.proofs.Choice.{on-arc}
+use Rattle.network.specs.Layout.{nodesAt, netOf, Laid}
+use Rattle.run_cells.specs.Part.{Part, entryMost, tableSize, sentMost, sentCount, entryCount, siteOf, stateOf}
+use Rattle.run_cells.specs.Stores.{Stored}
+use Rattle.run_cells.specs.Caches.{Caches}
+use Rattle.run_cells.proofs.Stored.{kept}
+use Rattle.run_cells.proofs.Lists.{sent-length, table-length}
+use Rattle.run_node.specs.Rules.{least}
+use Rattle.run_node.specs.Working.{SentFits, Ready}
+use Rattle.run_node.proofs.Limits.{few-entries, sent-fits, last-short}
+use Rattle.run_node.proofs.Choice.{on-arc}
 use Rattle.run.specs.Resting.{Resting}
 
 -- one part has changed
@@ -44,17 +43,17 @@ put-state m n i there s e = fun-ext (λ j. go j (eqb j i) refl)
     go j false q = ap siteOf (there j (eqb-false j i q))
 
 module _ (g : List ℕ) (la : Laid g) (m : ℕ → Part) (re : Resting g m) where
-  sent-fits-at : (j : ℕ) → IsNode (getD g 0 0) j → Fits (stateOf m j .node)
+  sent-fits-at : (j : ℕ) → IsNode (getD g nodesAt 0) j → SentFits (stateOf m j .node)
   sent-fits-at j at = sent-fits (netOf g) (la .accepted .sizes) (la .accepted .valid) j at _ (stateOf m j .node) (re .inv j .site .ok)
       (re .spread j)
 
-  sent-most : (j : ℕ) → IsNode (getD g 0 0) j → length (sents (stateOf m) j) ≤ sentMost
+  sent-most : (j : ℕ) → IsNode (getD g nodesAt 0) j → length (sents (stateOf m) j) ≤ sentMost
   sent-most j at = omega (arith, sent-fits-at j at, ends-le (stateOf m j .node .phase))
 
-  pub sent-low : (j : ℕ) → IsNode (getD g 0 0) j → m j sentCount ≤ sentMost
+  pub sent-low : (j : ℕ) → IsNode (getD g nodesAt 0) j → m j sentCount ≤ sentMost
   sent-low j at = omega (arith, sent-most j at, sent-length (m j) (m j sentCount))
 
-  pub table-low : (j : ℕ) → IsNode (getD g 0 0) j → m j entryCount ≤ entryMost
+  pub table-low : (j : ℕ) → IsNode (getD g nodesAt 0) j → m j entryCount ≤ entryMost
   table-low j at =
       omega (
         arith,
@@ -62,7 +61,7 @@ module _ (g : List ℕ) (la : Laid g) (m : ℕ → Part) (re : Resting g m) wher
         table-length (m j) (m j entryCount),
       )
 
-  module _ (i : ℕ) (at : IsNode (getD g 0 0) i) where
+  module _ (i : ℕ) (at : IsNode (getD g nodesAt 0) i) where
     pub i-node : (1 ≤ i) × (i < tableSize)
     i-node = omega (arith, la .accepted .sizes .nodes .1)
 
@@ -88,7 +87,7 @@ module _ (g : List ℕ) (la : Laid g) (m : ℕ → Part) (re : Resting g m) wher
                 last-short (netOf g) (la .accepted .sizes) (la .accepted .valid) j aj _ (stateOf m j .node) (re .inv j .site .ok),
               );
           site = subst (λ (x : Site). SiteOk (netOf g) i (sents (stateOf m)) x) (sym e) ok;
-          room = subst (λ (x : Site). Fits (work (netOf g) i (sents (stateOf m)) x .node)) (sym e) fits;
+          room = subst (λ (x : Site). SentFits (work (netOf g) i (sents (stateOf m)) x .node)) (sym e) fits;
           up = ap (λ (x : Site). x .node .phase) e ∙ up;
           caches = subst (λ (p : Part). Caches g i (sents (stateOf m)) p) (sym (st .here)) caches;
         }

@@ -1,5 +1,4 @@
 -- The loop over the steps: the run from here on is the run from the beginning.
--- Assumes nothing.
 use mathlib.Core.Path.{_≡_, refl, sym, ap, _∙_}
 use mathlib.Core.List.{List, [], _∷_}
 use Prim.Native.Nat.{ℕ, _+_, _≤_, _<_}
@@ -10,8 +9,8 @@ use lib.Seq.{drop-cons, drop-length}
 use Rattle.method.specs.Steps.{State, fresh, Step, byteStep, steps, step, runFrom, run, Kind, taken, idle, unknown, Counts, counted}
 use Rattle.method.specs.Steps.{countsFrom, counts}
 use Rattle.network.specs.Layout.{netOf, Laid}
-use Rattle.cells.specs.Part.{Part, stateOf}
-use Rattle.run.specs.Resting.{Resting, Did}
+use Rattle.run_cells.specs.Part.{Part, stateOf}
+use Rattle.run.specs.Resting.{Resting, Done}
 use Rattle.run.proofs.Rested.{table-low, i-node}
 use Rattle.run.specs.declared.Kind.{Kind as CodeKind}
 use Rattle.run.specs.declared.Kind.the-variants.{Taken, Idle, Unknown}
@@ -68,7 +67,7 @@ nothing-done g bs m re e =
     }
 
 pub one-done : (g bs : List ℕ) (k : ℕ) (m n : ℕ → Part) (c d : Counts) (r : Kind) → k < length bs → SoFar g bs k m c
-    → Did g n r (step (netOf g) (stateOf m) (byteStep (getD bs k 0))) → d ≡ counted r c → SoFar g bs (k + 1) n d
+    → Done g n r (step (netOf g) (stateOf m) (byteStep (getD bs k 0))) → d ≡ counted r c → SoFar g bs (k + 1) n d
 unfolding runFrom countsFrom
 one-done g bs k m n c d r lt so did ed =
     let b = byteStep (getD bs k 0) in

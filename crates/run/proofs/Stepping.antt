@@ -1,5 +1,4 @@
 -- A step byte, as the code does it, is the method's step; and after it all parts are at rest again.
--- Assumes nothing.
 use mathlib.Core.Path.{_≡_, refl, sym, ap, subst, _∙_}
 use mathlib.Core.Logic.{inl, inr}
 use mathlib.Core.Bool.{Bool, true, false}
@@ -15,15 +14,16 @@ use Rattle.method.specs.Network.{IsNode, IsArc}
 use Rattle.method.specs.Message.{Msg, item, oldest}
 use Rattle.method.specs.Steps.{State, sents, Step, deliver, byteStep, Named, node, arc, nothing, names, Kind, unknown, Stepped, carriedOut}
 use Rattle.method.specs.Steps.{step}
+use Rattle.method.specs.Invariant.{Inv, Spread}
 use Rattle.method.proofs.Oldest.{oldest-grow}
-use Rattle.method.proofs.Runs.{Inv, Onward, step-ok}
+use Rattle.method.proofs.Runs.{Onward, step-ok}
 use Rattle.method.proofs.Always.{step-keeps}
-use Rattle.method.proofs.Tight.{Spread, spread}
-use Rattle.network.specs.Layout.{lenAt, arcAt, arcsFrom, netOf, Laid}
-use Rattle.cells.specs.Part.{Part, tableSize, sumOf, siteOf, stateOf}
-use Rattle.cells.specs.Caches.{Caches}
-use Rattle.node.specs.Working.{Waits}
-use Rattle.run.specs.Resting.{Resting, Acted, Did}
+use Rattle.method.proofs.Tight.{spread}
+use Rattle.network.specs.Layout.{nodesAt, countAt, lenAt, arcAt, arcsFrom, netOf, Laid}
+use Rattle.run_cells.specs.Part.{Part, tableSize, sumOf, siteOf, stateOf}
+use Rattle.run_cells.specs.Caches.{Caches}
+use Rattle.run_node.specs.Working.{WaitsFor}
+use Rattle.run.specs.Resting.{Resting, Acted, Done}
 
 -- other nodes have sent more: what a part holds of its arcs stays
 grown-caches : (g : List ℕ) (j : ℕ) (ss ss′ : ℕ → List Msg) (f : Part) → ((h : ℕ) → (e : List Msg) × (ss′ h ≡ e ++ ss h))
@@ -62,38 +62,38 @@ arc-in g a (suc k) (suc n) lt =
     (arc-in g (suc a) k n (omega arith)))
 
 -- its tail and head are nodes
-pub ends-are-nodes : (g : List ℕ) → Laid g → (k : ℕ) → k < getD g 2 0 → IsNode (getD g 0 0) (getD g (292 + k) 0) × IsNode (getD g 0 0)
-    (getD g (532 + k) 0)
+pub ends-are-nodes : (g : List ℕ) → Laid g → (k : ℕ) → k < getD g countAt 0
+    → IsNode (getD g nodesAt 0) (arcAt g k .tail) × IsNode (getD g nodesAt 0) (arcAt g k .head)
 ends-are-nodes g la k lt =
     let e : 0 + k ≡ k = omega arith in
     let a = subst (λ (x : ℕ). IsArc (netOf g .arcs) (arcAt g x .tail) (arcAt g x .head) (arcAt g x .len)) e
-    (arc-in g 0 (getD g 2 0) k lt) in
+    (arc-in g 0 (getD g countAt 0) k lt) in
     (la .accepted .valid .tails _ _ _ a, la .accepted .valid .heads _ _ _ a)
 
 -- what a byte names
 module _ (g : List ℕ) (b : ℕ) where
-  pub names-node : b < 16 → b < getD g 0 0 → names (netOf g) (byteStep b) ≡ node (b + 1)
-  names-node l n = rw (le-leb b 15 (omega arith), add-one b, lt-ltb b (getD g 0 0) n)
+  pub names-node : b < 16 → b < getD g nodesAt 0 → names (netOf g) (byteStep b) ≡ node (b + 1)
+  names-node l n = rw (le-leb b 15 (omega arith), add-one b, lt-ltb b (getD g nodesAt 0) n)
 
-  pub names-no-node : b < 16 → getD g 0 0 ≤ b → names (netOf g) (byteStep b) ≡ nothing
-  names-no-node l n = rw (le-leb b 15 (omega arith), add-one b, le-ltb b (getD g 0 0) n)
+  pub names-no-node : b < 16 → getD g nodesAt 0 ≤ b → names (netOf g) (byteStep b) ≡ nothing
+  names-no-node l n = rw (le-leb b 15 (omega arith), add-one b, le-ltb b (getD g nodesAt 0) n)
 
   delivery : 16 ≤ b → byteStep b ≡ deliver (suc (b - 16))
   delivery l = let e : b - 15 ≡ suc (b - 16) = omega arith in rw (lt-leb b 15 (omega arith), e)
 
-  pub names-arc : 16 ≤ b → b - 16 < getD g 2 0 → names (netOf g) (byteStep b) ≡ arc (getD g (292 + (b - 16)) 0) (getD g (532 + (b - 16)) 0)
+  pub names-arc : 16 ≤ b → b - 16 < getD g countAt 0 → names (netOf g) (byteStep b) ≡ arc (arcAt g (b - 16) .tail) (arcAt g (b - 16) .head)
   names-arc l n =
       let e : 0 + (b - 16) ≡ b - 16 = omega arith in
-      rw (delivery l, arc-some g 0 (getD g 2 0) (b - 16) n) (ap (λ (x : ℕ). arc (getD g (292 + x) 0) (getD g (532 + x) 0)) e)
+      rw (delivery l, arc-some g 0 (getD g countAt 0) (b - 16) n) (ap (λ (x : ℕ). arc (arcAt g x .tail) (arcAt g x .head)) e)
 
-  pub names-no-arc : 16 ≤ b → getD g 2 0 ≤ b - 16 → names (netOf g) (byteStep b) ≡ nothing
-  names-no-arc l n = rw (delivery l, arc-none g 0 (getD g 2 0) (b - 16) n)
+  pub names-no-arc : 16 ≤ b → getD g countAt 0 ≤ b - 16 → names (netOf g) (byteStep b) ≡ nothing
+  names-no-arc l n = rw (delivery l, arc-none g 0 (getD g countAt 0) (b - 16) n)
 
 module _ (g : List ℕ) (la : Laid g) (m : ℕ → Part) (re : Resting g m) (b : Step) where
   -- all parts are at rest after an act of node i
   pub acted-did : (o : Named) → names (netOf g) b ≡ o → (i : ℕ) (n : ℕ → Part) (k : Kind)
       → Acted g m i n k (carriedOut (netOf g) (stateOf m) o)
-      → Did g n k (step (netOf g) (stateOf m) b)
+      → Done g n k (step (netOf g) (stateOf m) b)
   unfolding step
   acted-did o eo i n k a₀ = record {
     kind = a .kind;
@@ -132,11 +132,11 @@ module _ (g : List ℕ) (la : Laid g) (m : ℕ → Part) (re : Resting g m) (b :
           (grown-caches g j (sents (stateOf m)) (sents (stateOf n)) (m j) grows
           (λ h. omega (arith, re .inv j .site .taken-le h, re .inv j .site .delivered-le h)) (re .caches j lt))
 
-      waits : (j : ℕ) (t : Bool) → eqb j i ≡ t → Waits (n j)
-      waits j true e = subst (λ (x : ℕ). Waits (n x)) (sym (eqb-true j i e)) (a .waits)
-      waits j false e = subst (λ (f : Part). Waits f) (sym (a .there j (eqb-false j i e))) (re .waits j)
+      waits : (j : ℕ) (t : Bool) → eqb j i ≡ t → WaitsFor (n j)
+      waits j true e = subst (λ (x : ℕ). WaitsFor (n x)) (sym (eqb-true j i e)) (a .waits)
+      waits j false e = subst (λ (f : Part). WaitsFor f) (sym (a .there j (eqb-false j i e))) (re .waits j)
 
-  pub nothing-did : names (netOf g) b ≡ nothing → Did g m unknown (step (netOf g) (stateOf m) b)
+  pub nothing-did : names (netOf g) b ≡ nothing → Done g m unknown (step (netOf g) (stateOf m) b)
   unfolding step
   nothing-did e =
-      subst (λ (o : Named). Did g m unknown (carriedOut (netOf g) (stateOf m) o)) (sym e) (record { kind = refl; state = refl; rest = re })
+      subst (λ (o : Named). Done g m unknown (carriedOut (netOf g) (stateOf m) o)) (sym e) (record { kind = refl; state = refl; rest = re })

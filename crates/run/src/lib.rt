@@ -1,17 +1,17 @@
 // The run over a step list, equal to the method's: starts, deliveries, steps, counts.
 ghost use mathlib.Core.Path.{_≡_};
-ghost use Prim.Native.Nat.{_+_, _-_, _<_};
+ghost use Prim.Native.Nat.{_+_, _-_, _/_, _%_, _<_};
 ghost use lib.ListN.{length, getD};
 ghost use Rattle.method.specs.Network.{IsNode};
 ghost use Rattle.method.specs.Steps.{byteStep, starting, delivering, step, counted};
-ghost use Rattle.network.specs.Layout.{netOf, Laid};
-ghost use Rattle.cells.specs.Part.{cells, stateSize, stateOf};
-ghost use Rattle.run.specs.Resting.{Resting, Acted, Did};
+ghost use Rattle.network.specs.Layout.{nodesAt, netOf, Laid};
+ghost use Rattle.run_cells.specs.Part.{deliveredAt, sentCount, cells, stateSize, stateOf};
+ghost use Rattle.run.specs.Resting.{Resting, Acted, Done};
 ghost use Rattle.run.specs.Ran.{kindOf, tallied, Ran};
-use cells::*;
-use node::Chosen;
-use node::work;
-use node::work_from;
+use run_cells::*;
+use run_node::Chosen;
+use run_node::work;
+use run_node::work_from;
 
 // What a step counts as.
 pub enum Kind {
@@ -22,7 +22,7 @@ pub enum Kind {
 
 // Node i is to start.
 pub fn start(net: &[u8], s: &mut [u8], i: usize) -> Kind
-    requires { ⌜ Laid (now net) × Resting (now net) (cells (now s)) × IsNode (getD (now net) 0 0) i × (length (now s) ≡ stateSize) ⌝ }
+    requires { ⌜ Laid (now net) × Resting (now net) (cells (now s)) × IsNode (getD (now net) nodesAt 0) i × (length (now s) ≡ stateSize) ⌝ }
     ensures { λ r. ⌜ Acted (now (net .entry)) (cells (now (s .entry))) i (cells (now (s .exit))) (kindOf r)
         (starting (stateOf (cells (now (s .entry))) i .node .phase) (netOf (now (net .entry))) (stateOf (cells (now (s .entry)))) i) ⌝ }
 {
@@ -34,25 +34,25 @@ pub fn start(net: &[u8], s: &mut [u8], i: usize) -> Kind
     Kind::Taken
 }
 
-// The arc from i to h is to hand over its oldest undelivered message. A node chooses again the arc that it waits for: another, and it waits
-// still; or this one, and it works on from there.
-pub fn deliver(net: &[u8], s: &mut [u8], i: usize, h: usize) -> Kind
-    requires { ⌜ Laid (now net) × Resting (now net) (cells (now s)) × IsNode (getD (now net) 0 0) i × IsNode (getD (now net) 0 0) h
-        × (length (now s) ≡ stateSize) ⌝ }
-    ensures { λ r. ⌜ Acted (now (net .entry)) (cells (now (s .entry))) i (cells (now (s .exit))) (kindOf r)
-        (delivering (netOf (now (net .entry))) (stateOf (cells (now (s .entry)))) i h) ⌝ }
+// The arc at a site, from i to h, hands over its oldest undelivered message. A node chooses again the arc that it waits for: another,
+// and it waits still; or this one, and it works on from there.
+pub fn deliver(net: &[u8], s: &mut [u8], site: usize) -> Kind
+    requires { ⌜ Laid (now net) × Resting (now net) (cells (now s)) × IsNode (getD (now net) nodesAt 0) (site / 16 + 1)
+        × IsNode (getD (now net) nodesAt 0) (site % 16 + 1)
+        × (cells (now s) (site / 16 + 1) (deliveredAt + (site % 16 + 1)) < cells (now s) (site % 16 + 1) sentCount)
+        × (site < 256) × (length (now s) ≡ stateSize) ⌝ }
+    ensures { λ r. ⌜ Acted (now (net .entry)) (cells (now (s .entry))) (site / 16 + 1) (cells (now (s .exit))) (kindOf r)
+        (delivering (netOf (now (net .entry))) (stateOf (cells (now (s .entry)))) (site / 16 + 1) (site % 16 + 1)) ⌝ }
 {
-    let sent = get(&*s, h, SENT);
-    if sent <= get(&*s, i, DELIVERED + h) {
-        return Kind::Idle;
-    }
-    count(s, i, DELIVERED + h);
-    if get(&*s, i, WAITS) != h {
+    hand_over(s, site);
+    if !waits_for(&*s, site) {
         return Kind::Taken;
     }
+    let i = site / 16 + 1;
     if get(&*s, i, PHASE) != 1 {
         return Kind::Taken;
     }
+    let h = site % 16 + 1;
     let x = get(&*s, i, SUMS + h);
     work_from(net, s, i, Chosen { sum: x, head: h });
     Kind::Taken
@@ -61,22 +61,24 @@ pub fn deliver(net: &[u8], s: &mut [u8], i: usize, h: usize) -> Kind
 // A step byte: a start or a delivery; then unknown, idle or taken.
 pub fn step(net: &[u8], s: &mut [u8], b: u8) -> Kind
     requires { ⌜ Laid (now net) × Resting (now net) (cells (now s)) × (length (now s) ≡ stateSize) ⌝ }
-    ensures { λ r. ⌜ Did (now (net .entry)) (cells (now (s .exit))) (kindOf r)
+    ensures { λ r. ⌜ Done (now (net .entry)) (cells (now (s .exit))) (kindOf r)
         (step (netOf (now (net .entry))) (stateOf (cells (now (s .entry)))) (byteStep b)) ⌝ }
 {
     match b {
         0..=15 => {
-            if b < net[NODES] {
+            if b < net[network::NODES] {
                 return start(net, s, b as usize + 1);
             }
             Kind::Unknown
         }
         16..=255 => {
             let k = b - 16;
-            if k < net[ARCS] {
-                let i = net[TAILS + k as usize] as usize;
-                let h = net[HEADS + k as usize] as usize;
-                return deliver(net, s, i, h);
+            if k < net[network::COUNT] {
+                let site = net[network::SITES + k as usize] as usize;
+                if has_more(&*s, site) {
+                    return deliver(net, s, site);
+                }
+                return Kind::Idle;
             }
             Kind::Unknown
         }

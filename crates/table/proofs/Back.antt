@@ -1,8 +1,6 @@
 -- What was written is read back: the header, a record, all records.
--- Assumes nothing.
-use mathlib.Core.Path.{_≡_, refl, sym, _∙_, ap, ap₂}
+use mathlib.Core.Path.{_≡_, refl, sym, _∙_, ap, ap₂, subst}
 use mathlib.Core.List.{List, [], _∷_, _++_, append-assoc}
-use mathlib.Core.Bool.{false}
 use Prim.Native.Nat.{ℕ, suc, _+_, _-_, _^_, _<_}
 use native.Mathlib.Omega.{arith}
 use lib.ListN.{length, length-append}
@@ -14,13 +12,15 @@ use Rattle.method.specs.Rules.{Filled}
 use Rattle.method.specs.Entries.{lastDistance}
 use Rattle.table.specs.File.{Form, headerBits, recordBits, bodyBits, headerSize, recordSize, start}
 use Rattle.table.specs.declared.Header.{Header}
-use Rattle.table.specs.Reader.{walk, recordAt, wrong, headerAt}
-use Rattle.table.specs.Laws.{Fits}
+use Rattle.table.specs.Reader.{walk, recordAt, recordRows, headerAt}
+use Rattle.refusal.specs.Rows.{Clear}
+use Rattle.table.specs.Laws.{Holds}
 use Rattle.table.proofs.Sizes.{length-record, length-body, start-zero, start-suc}
-use Rattle.table.proofs.Passed.{Next, Passed, not-wrong}
-use Rattle.table.proofs.Walk.{walk-record}
+use Rattle.table.specs.Passed.{Next, Passed}
+use Rattle.table.proofs.Passed.{next-clear}
+use Rattle.table.proofs.Walk.{stands-whole, walk-on}
 
--- four fields one behind the other, each in as many bits as hold it
+-- four fields one after the other, each in as many bits as hold it
 module _ (A X : List ℕ) (p w₁ w₂ w₃ w₄ v₁ v₂ v₃ v₄ : ℕ) (at : length A ≡ p) where
   abbrev B : List ℕ
   B = A ++ (asBits w₁ v₁ ++ asBits w₂ v₂ ++ asBits w₃ v₃ ++ asBits w₄ v₄ ++ X)
@@ -33,17 +33,20 @@ module _ (A X : List ℕ) (p w₁ w₂ w₃ w₄ v₁ v₂ v₃ v₄ : ℕ) (at 
       let e₃ : B ≡ (A ++ asBits w₁ v₁ ++ asBits w₂ v₂) ++ (asBits w₃ v₃ ++ (asBits w₄ v₄ ++ X)) = simp append-assoc in
       let e₄ : B ≡ (A ++ asBits w₁ v₁ ++ asBits w₂ v₂ ++ asBits w₃ v₃) ++ (asBits w₄ v₄ ++ X) = simp append-assoc in (
         ap (λ (b : List ℕ). field b p w₁) e₁ ∙ field-at-whole A _ p w₁ v₁ at g₁,
-        ap (λ (b : List ℕ). field b (p + w₁) w₂) e₂ ∙ field-at-whole (A ++ asBits w₁ v₁) _ (p + w₁) w₂ v₂ (simp (length-append, length-asBits, at)) g₂,
+        ap (λ (b : List ℕ). field b (p + w₁) w₂) e₂
+            ∙ field-at-whole (A ++ asBits w₁ v₁) _ (p + w₁) w₂ v₂ (simp (length-append, length-asBits, at)) g₂,
         ap (λ (b : List ℕ). field b (p + w₁ + w₂) w₃) e₃
             ∙ field-at-whole (A ++ asBits w₁ v₁ ++ asBits w₂ v₂) _ (p + w₁ + w₂) w₃ v₃ (simp (length-append, length-asBits, at)) g₃,
         ap (λ (b : List ℕ). field b (p + w₁ + w₂ + w₃) w₄) e₄
-            ∙ field-at-whole (A ++ asBits w₁ v₁ ++ asBits w₂ v₂ ++ asBits w₃ v₃) _ (p + w₁ + w₂ + w₃) w₄ v₄ (simp (length-append, length-asBits, at)) g₄,
+            ∙ field-at-whole (A ++ asBits w₁ v₁ ++ asBits w₂ v₂ ++ asBits w₃ v₃) _ (p + w₁ + w₂ + w₃) w₄ v₄
+            (simp (length-append, length-asBits, at)) g₄,
       )
 
-module _ (f : Form) (h : Header) (fits : Fits f (h .n) (h .lmax)) where
-  -- a record behind A is read back
+module _ (f : Form) (h : Header) (fits : Holds f (h .n) (h .lmax)) where
+  -- a record after A is read back
   pub record-back : (seen : List Filled) (e : Filled) → Next h seen e → (A X : List ℕ) (p : ℕ) → length A ≡ p
-      → (field (A ++ (recordBits f (lastDistance seen) e ++ X)) p 1 ≡ 1) × (recordAt f seen (A ++ (recordBits f (lastDistance seen) e ++ X)) p ≡ e)
+      → (field (A ++ (recordBits f (lastDistance seen) e ++ X)) p 1 ≡ 1)
+      × (recordAt f seen (A ++ (recordBits f (lastDistance seen) e ++ X)) p ≡ e)
   unfolding recordBits recordAt
   record-back seen e next A X p at =
       let s = next .sound in
@@ -72,11 +75,13 @@ module _ (f : Form) (h : Header) (fits : Fits f (h .n) (h .lmax)) where
       let n : suc (length es) + t ≡ length es + suc t = omega arith in
       rw (append-assoc A E X, n)
       (walk-all es (ps .1) (suc t) (E ++ X)
-      ∙ walk-record f h t es (A ++ (E ++ X)) p (b .0) (omega arith) false (ap (wrong h es) (b .1) ∙ not-wrong h es e (ps .0))
+      ∙ walk-on f h t es (A ++ (E ++ X)) p (stands-whole f (A ++ (E ++ X)) p (b .0) (omega arith))
+      (subst (λ (x : Filled). Clear (recordRows f h es x)) (sym (b .1)) (next-clear f h es e (ps .0)))
       ∙ ap₂ (λ (x : Filled) (q : ℕ). walk f h t (x ∷ es) (A ++ (E ++ X)) q) (b .1) (sym (start-suc f (length es))))
 
   -- the header is
-  pub header-back : IsNode (h .n) (h .own) → (es : List Filled) (X : List ℕ) → (field (bodyBits f h es ++ X) 0 4 ≡ f .version) × (headerAt f (bodyBits f h es ++ X) ≡ h)
+  pub header-back : IsNode (h .n) (h .own) → (es : List Filled) (X : List ℕ)
+      → (field (bodyBits f h es ++ X) 0 4 ≡ f .version) × (headerAt f (bodyBits f h es ++ X) ≡ h)
   unfolding bodyBits headerBits headerAt
   header-back own [] X =
       let b = four-back [] X 0 4 (f .node) (f .node) (f .len) (f .version) (h .own - 1) (h .n - 1) (h .lmax) refl (fits .version)
@@ -84,4 +89,5 @@ module _ (f : Form) (h : Header) (fits : Fits f (h .n) (h .lmax)) where
       let o : h .own - 1 + 1 ≡ h .own = omega (arith, own) in
       let n : h .n - 1 + 1 ≡ h .n = omega (arith, own) in
       (b .0, rw (b .1, b .2, b .3, o, n))
-  header-back own (e ∷ es) X = rw (append-assoc (bodyBits f h es) (recordBits f (lastDistance es) e) X) (header-back own es (recordBits f (lastDistance es) e ++ X))
+  header-back own (e ∷ es) X = rw (append-assoc (bodyBits f h es) (recordBits f (lastDistance es) e) X)
+      (header-back own es (recordBits f (lastDistance es) e ++ X))

@@ -1,38 +1,36 @@
--- The records that pass refusal 17, one behind the other: the method's sound records whose first difference is not 0.
--- Assumes nothing.
+-- Records that pass refusal 17: its rows are clear of them, they are fewer than the nodes, and their distances are small.
 use mathlib.Core.Path.{_≡_, refl, ap}
 use mathlib.Core.Logic.{inl, inr, _≢_}
 use mathlib.Core.List.{List, [], _∷_, _++_}
 use mathlib.Core.Bool.{Bool, true, false, _&&_, _||_, true≢false}
-use Prim.Native.Nat.{ℕ, suc, _-_, _≤_, _<_}
+use Prim.Native.Nat.{ℕ, suc, _-_, _*_, _≤_, _<_}
 use native.Mathlib.Omega.{arith}
-use lib.Dec.{eqb}
+use lib.Dec.{ltb, eqb}
 use lib.ListN.{length}
 use borrow.Author.Tests.{le-ltb, ltb-false, eq-eqb, ne-eqb, eqb-false}
 use Rattle.method.specs.Network.{IsNode}
-use Rattle.method.specs.Rules.{Filled}
-use Rattle.method.specs.Entries.{lastDistance, Sound, AllSound}
+use Rattle.method.specs.Rules.{Filled, has}
+use Rattle.method.specs.Entries.{lastDistance, AllSound}
 use Rattle.method.specs.Distinct.{Among}
+use Rattle.method.specs.Invariant.{In, targets, Has}
+use Rattle.refusal.specs.Rows.{Clear}
+use Rattle.refusal.proofs.Rows.{_next_, both-clear}
 use Rattle.method.proofs.Numbers.{few}
-use Rattle.method.proofs.Table.{In, Has, Once, targets, targets-length, has-false}
+use Rattle.method.proofs.Table.{Once, targets-length, has-false}
 use Rattle.table.specs.declared.Header.{Header}
-use Rattle.table.specs.Reader.{wrong, wrongFields}
-
--- a record behind those seen
-pub record Next (h : Header) (seen : List Filled) (e : Filled) : Type 0 where
-  pub sound : Sound (h .n) (h .lmax) (h .own) seen e
-  pub first : length seen ≡ 0 → 1 ≤ e .distance
-
-abbrev pub Passed : Header → List Filled → Type 0
-Passed h [] = Unit {0}
-Passed h (e ∷ es) = Next h es e × Passed h es
+use Rattle.table.specs.File.{Form}
+use Rattle.table.specs.Reader.{fieldRows, recordRows, recordsRows}
+use Rattle.table.specs.Passed.{Next, Passed}
 
 -- the method's records pass
 pub all-passed : (h : Header) (es : List Filled) → AllSound (h .n) (h .lmax) (h .own) es
     → ((g : List Filled) (e : Filled) → es ≡ g ++ (e ∷ []) → 1 ≤ e .distance) → Passed h es
 all-passed h [] s first = tt
-all-passed h (e ∷ es) s first =
-    (record { sound = s .0; first = λ z. first [] e (ap (λ (r : List Filled). e ∷ r) (none es z)) }, all-passed h es (s .1) (λ g x q. first (e ∷ g) x (ap (λ (r : List Filled). e ∷ r) q)))
+all-passed h (e ∷ es) s first = (
+  record { sound = s .0; first = λ z. first [] e (ap (λ (r : List Filled). e ∷ r) (none es z)) },
+  all-passed h es (s .1)
+      (λ g x q. first (e ∷ g) x (ap (λ (r : List Filled). e ∷ r) q)),
+)
   where
     none : (r : List Filled) → length r ≡ 0 → r ≡ []
     none [] z = refl
@@ -43,48 +41,42 @@ pub neither : (t u : Bool) → t || u ≡ false → (t ≡ false) × (u ≡ fals
 neither true u e = absurd (true≢false e)
 neither false u e = (refl, e)
 
--- refusal 17's test says no exactly of a record that goes on
+-- refusal 17's rows are clear exactly of a record that goes on
 
-pub not-wrong : (h : Header) (seen : List Filled) (e : Filled) → Next h seen e → wrong h seen e ≡ false
-unfolding wrong wrongFields
-not-wrong h seen e x =
+pub next-clear : (f : Form) (h : Header) (seen : List Filled) (e : Filled) → Next h seen e → Clear (recordRows f h seen e)
+unfolding fieldRows
+next-clear f h seen e x =
     let s = x .sound in
-    rw (
-      le-ltb (h .n) (e .target) (s .target .1),
-      ne-eqb (e .target) (h .own) (s .other),
-      s .new,
-      le-ltb (h .n) (e .hop) (s .hop .1),
-      ne-eqb (e .hop) (h .own) (s .hopOther),
-      le-ltb (h .lmax) (e .distance - lastDistance seen) (omega (arith, s .slowly)),
-    )
-    (rises seen (x .first))
+    (rw (le-ltb (h .n) (e .target) (s .target .1), ne-eqb (e .target) (h .own) (s .other)) (s .new))
+    next (rw (le-ltb (h .n) (e .hop) (s .hop .1), ne-eqb (e .hop) (h .own) (s .hopOther)))
+    next (rw (le-ltb (h .lmax) (e .distance - lastDistance seen) (omega (arith, s .slowly))) (rises seen (x .first)))
+    next tt
   where
     rises : (es : List Filled) → (length es ≡ 0 → 1 ≤ e .distance) → eqb (length es) 0 && eqb (e .distance - lastDistance es) 0 ≡ false
     rises [] g = ne-eqb (e .distance - 0) 0 (omega (arith, g refl))
     rises (x ∷ es) g = rw (ne-eqb (suc (length es)) 0 (omega arith))
 
-pub goes-on : (h : Header) (seen : List Filled) (e : Filled) → 1 ≤ e .target → 1 ≤ e .hop → lastDistance seen ≤ e .distance → wrong h seen e ≡ false → Next h seen e
-unfolding wrong wrongFields
-goes-on h seen e a b c w =
-    let w6 = neither _ _ w in
-    let w5 = neither _ _ (w6 .0) in
-    let w4 = neither _ _ (w5 .0) in
-    let w3 = neither _ _ (w4 .0) in
-    let w2 = neither _ _ (w3 .0) in
-    let w1 = neither _ _ (w2 .0) in
-    let slow = ltb-false (h .lmax) (e .distance - lastDistance seen) (w5 .1) in
+pub goes-on : (f : Form) (h : Header) (seen : List Filled) (e : Filled) → 1 ≤ e .target → 1 ≤ e .hop → lastDistance seen ≤ e .distance
+    → Clear (recordRows f h seen e) → Next h seen e
+unfolding fieldRows
+goes-on f h seen e a b c w =
+    let t = neither _ (has (e .target) seen) (w .0) in
+    let t₁ = neither (ltb (h .n) (e .target)) _ (t .0) in
+    let o = neither (ltb (h .n) (e .hop)) _ (w .1 .0) in
+    let d = neither (ltb (h .lmax) (e .distance - lastDistance seen)) _ (w .1 .1 .0) in
+    let slow = ltb-false (h .lmax) (e .distance - lastDistance seen) (d .0) in
     record {
       sound =
           record {
-            target = (a, ltb-false (h .n) (e .target) (w1 .0));
-            other = eqb-false (e .target) (h .own) (w1 .1);
-            new = w2 .1;
-            hop = (b, ltb-false (h .n) (e .hop) (w3 .1));
-            hopOther = eqb-false (e .hop) (h .own) (w4 .1);
+            target = (a, ltb-false (h .n) (e .target) (t₁ .0));
+            other = eqb-false (e .target) (h .own) (t₁ .1);
+            new = t .1;
+            hop = (b, ltb-false (h .n) (e .hop) (o .0));
+            hopOther = eqb-false (e .hop) (h .own) (o .1);
             rises = c;
             slowly = omega arith;
           };
-      first = λ z. rises z (w6 .1);
+      first = λ z. rises z (d .1);
     }
   where
     rises : length seen ≡ 0 → eqb (length seen) 0 && eqb (e .distance - lastDistance seen) 0 ≡ false → 1 ≤ e .distance
@@ -92,6 +84,12 @@ goes-on h seen e a b c w =
         let q : eqb (e .distance - lastDistance seen) 0 ≡ false = rw (eq-eqb (length seen) 0 z) at t in
         let n : e .distance - lastDistance seen ≡ 0 → ⊥ = eqb-false (e .distance - lastDistance seen) 0 q in
         omega arith
+
+pub passed-clear : (f : Form) (h : Header) (es : List Filled) → Passed h es → Clear (recordsRows f h es)
+unfolding recordsRows
+passed-clear f h [] p = tt
+passed-clear f h (e ∷ es) p = both-clear (recordsRows f h es) (recordRows f h es e) (passed-clear f h es (p .1))
+    (next-clear f h es e (p .0))
 
 -- no target twice, none is the node itself: fewer records than nodes
 
@@ -109,8 +107,23 @@ passed-hop h (x ∷ es) p e (inr m) = passed-hop h es (p .1) e m
 
 pub few-records : (h : Header) → IsNode (h .n) (h .own) → (es : List Filled) → Passed h es → length es < h .n
 few-records h own es p =
-    omega (arith, targets-length es, few (h .n) (h .own ∷ targets es) (λ m. passed-nodes h es p (h .own) m .1 refl, passed-once h es p) node)
+    omega (
+      arith,
+      targets-length es,
+      few (h .n) (h .own ∷ targets es) (λ m. passed-nodes h es p (h .own) m .1 refl, passed-once h es p)
+          node,
+    )
   where
     node : (y : ℕ) → Among y (h .own ∷ targets es) → IsNode (h .n) y
     node y (inl q) = rw q own
     node y (inr m) = passed-nodes h es p y m .0
+
+-- where LMAX has 4 bits, no record is more than 15 further than the one before it
+
+pub last-distance : (h : Header) (es : List Filled) → Passed h es → h .lmax < 16 → lastDistance es ≤ 15 * length es
+last-distance h [] p l = omega arith
+last-distance h (e ∷ es) p l = omega (arith, p .0 .sound .slowly, last-distance h es (p .1) l)
+
+pub passed-distance : (h : Header) (es : List Filled) → Passed h es → h .lmax < 16 → (e : Filled) → In e es → e .distance ≤ 15 * length es
+passed-distance h (x ∷ es) p l e (inl q) = rw q (last-distance h (x ∷ es) p l)
+passed-distance h (x ∷ es) p l e (inr m) = omega (arith, passed-distance h es (p .1) l e m)

@@ -1,102 +1,119 @@
--- One turn of the reader, for each way that it can go; whatever it takes has passed refusal 17; and what a reading can be.
--- Assumes nothing.
-use mathlib.Core.Path.{_≡_, refl}
+-- One turn of the reader; what every record taken keeps; and what a reading can be.
+use mathlib.Core.Path.{_≡_, refl, sym}
 use mathlib.Core.List.{List, [], _∷_}
-use mathlib.Core.Bool.{Bool, true, false, cond}
+use mathlib.Core.Bool.{Bool, true, false, cond, _&&_, and-false, true≢false}
 use Prim.Native.Nat.{ℕ, zero, suc, _+_, _≤_, _<_}
 use native.Mathlib.Omega.{arith}
 use lib.ListN.{length}
 use lib.Dec.{ltb, leb, eqb}
-use borrow.Author.Tests.{lt-ltb, le-ltb, lt-leb, le-leb, eq-eqb, ne-eqb, ltb-false}
+use borrow.Author.Tests.{lt-leb, le-leb, leb-true, eq-eqb, ne-eqb, eqb-true, ltb-false}
 use Rattle.bits.specs.Bits.{bitsOf, field}
 use Rattle.method.specs.Rules.{Filled}
+use Rattle.refusal.specs.declared.Refusal.{Refusal}
+use Rattle.refusal.specs.Rows.{Row, Clear, first, refused, answerBy}
+use Rattle.refusal.proofs.Rows.{clear, number-clear, after-clear}
 use Rattle.table.specs.File.{Form, headerSize, recordSize}
 use Rattle.table.specs.declared.Header.{Header}
-use Rattle.table.specs.Reader.{Taken, takes, walk, taken, recordAt, wrong, afterZero, headerAt, headerFault, concluded, Reading, refused, accepted, readingBy, reading}
-use Rattle.table.specs.declared.Ending.{Ending}
-use Rattle.table.specs.declared.Ending.the-variants.{Unfinished, Marked, Faulty}
-use Rattle.table.proofs.Passed.{Passed, goes-on}
+use Rattle.table.specs.Reader.{stands, passes, walk, taken, recordAt, recordRows, recordsRows, headerAt, headerRows, zeroBit, endOf}
+use Rattle.table.specs.Reader.{nextRows, bodyRows, fileRows, Reading, accepted, reading}
+use Rattle.table.specs.Passed.{Passed}
+use Rattle.table.proofs.Passed.{goes-on, passed-clear}
+
+pub both-true : (t u : Bool) → t && u ≡ true → (t ≡ true) × (u ≡ true)
+both-true true u e = (refl, e)
+both-true false u e = absurd (true≢false (sym e))
 
 module _ (f : Form) (h : Header) (t : ℕ) (seen : List Filled) (B : List ℕ) (p : ℕ) where
-  -- no bit is left
-  pub walk-none : length B ≤ p → walk f h t seen B p ≡ takes seen Unfinished
+  -- no record stands, or it is refused
+  pub walk-stop : passes f h seen B p ≡ false → walk f h t seen B p ≡ seen
   unfolding walk
-  walk-none g = go t
+  walk-stop e = go t
     where
-      go : (t : ℕ) → walk f h t seen B p ≡ takes seen Unfinished
+      go : (t : ℕ) → walk f h t seen B p ≡ seen
       go zero = refl
-      go (suc t) = rw (le-leb (length B) p g)
+      go (suc t) = rw e
 
-  -- the 0 bit
-  pub walk-zero : p < length B → field B p 1 ≡ 0 → walk f h (suc t) seen B p ≡ takes seen (afterZero B p)
+  -- one is taken
+  pub walk-on : stands f B p ≡ true → Clear (recordRows f h seen (recordAt f seen B p))
+      → walk f h (suc t) seen B p ≡ walk f h t (recordAt f seen B p ∷ seen) B (p + recordSize f)
   unfolding walk
-  walk-zero g z = rw (lt-leb (length B) p g, eq-eqb (field B p 1) 0 z)
+  walk-on e c = rw (e, number-clear (recordRows f h seen (recordAt f seen B p)) c)
 
-  -- a 1 bit, and too few behind it
-  pub walk-short : p < length B → field B p 1 ≡ 1 → length B < p + recordSize f → walk f h (suc t) seen B p ≡ takes seen Unfinished
-  unfolding walk
-  walk-short g z s = rw (lt-leb (length B) p g, ne-eqb (field B p 1) 0 (omega arith), lt-ltb (length B) (p + recordSize f) s)
+pub stands-whole : (f : Form) (B : List ℕ) (p : ℕ) → field B p 1 ≡ 1 → p + recordSize f ≤ length B → stands f B p ≡ true
+stands-whole f B p z g = rw (eq-eqb (field B p 1) 1 z, le-leb (p + recordSize f) (length B) g)
 
-  -- a whole record, wrong or not
-  pub walk-record : field B p 1 ≡ 1 → p + recordSize f ≤ length B → (w : Bool) → wrong h seen (recordAt f seen B p) ≡ w
-      → walk f h (suc t) seen B p ≡ cond w (takes seen (Faulty 17)) (walk f h t (recordAt f seen B p ∷ seen) B (p + recordSize f))
-  unfolding walk
-  walk-record z s w e =
-      rw (lt-leb (length B) p (omega arith), ne-eqb (field B p 1) 0 (omega arith), le-ltb (length B) (p + recordSize f) s, e)
+pub stands-zero : (f : Form) (B : List ℕ) (p : ℕ) → field B p 1 ≡ 0 → stands f B p ≡ false
+stands-zero f B p z = rw (ne-eqb (field B p 1) 1 (omega arith))
 
+pub stands-short : (f : Form) (B : List ℕ) (p : ℕ) → length B < p + recordSize f → stands f B p ≡ false
+stands-short f B p g = rw (lt-leb (p + recordSize f) (length B) g) (and-false (eqb (field B p 1) 1))
+
+pub stands-fits : (f : Form) (B : List ℕ) (p : ℕ) → stands f B p ≡ true → p + recordSize f ≤ length B
+stands-fits f B p e = leb-true (p + recordSize f) (length B)
+    (both-true (eqb (field B p 1) 1) (leb (p + recordSize f) (length B)) e .1)
+
+-- what every record taken keeps, holds of all
 module _ (f : Form) (h : Header) (B : List ℕ) (P : List Filled → ℕ → Type 0)
-    (one-more : (seen : List Filled) (p : ℕ) → P seen p → p + recordSize f ≤ length B → wrong h seen (recordAt f seen B p) ≡ false
+    (one-more : (seen : List Filled) (p : ℕ) → P seen p → p + recordSize f ≤ length B → Clear (recordRows f h seen (recordAt f seen B p))
     → P (recordAt f seen B p ∷ seen) (p + recordSize f)) where
-  -- what every record taken keeps, holds of all
-  walk-keeps : (t : ℕ) (seen : List Filled) (p : ℕ) → P seen p → (q : ℕ) × P (walk f h t seen B p .records) q
+  walk-keeps : (t : ℕ) (seen : List Filled) (p : ℕ) → P seen p → (q : ℕ) × P (walk f h t seen B p) q
   unfolding walk
   walk-keeps zero seen p s = (p, s)
   walk-keeps (suc t) seen p s =
-      go (leb (length B) p) (eqb (field B p 1) 0) (ltb (length B) (p + recordSize f)) refl (wrong h seen (recordAt f seen B p)) refl
-      (λ l w. walk-keeps t (recordAt f seen B p ∷ seen) (p + recordSize f) (one-more seen p s l w))
+      go (passes f h seen B p) refl (λ l c. walk-keeps t (recordAt f seen B p ∷ seen) (p + recordSize f) (one-more seen p s l c))
     where
-      next : Taken
+      rows : List Row
+      rows = recordRows f h seen (recordAt f seen B p)
+
+      next : List Filled
       next = walk f h t (recordAt f seen B p ∷ seen) B (p + recordSize f)
 
-      go : (none zero short : Bool) → ltb (length B) (p + recordSize f) ≡ short → (w : Bool) → wrong h seen (recordAt f seen B p) ≡ w
-          → (p + recordSize f ≤ length B → wrong h seen (recordAt f seen B p) ≡ false → (q : ℕ) × P (next .records) q)
-          → (q : ℕ)
-          × P
-          (cond none (takes seen Unfinished) (cond zero (takes seen (afterZero B p)) (cond short (takes seen Unfinished) (cond w (takes seen (Faulty 17)) next))) .records)
-          q
-      go true z c l w e ih = (p, s)
-      go false true c l w e ih = (p, s)
-      go false false true l w e ih = (p, s)
-      go false false false l true e ih = (p, s)
-      go false false false l false e ih = ih (ltb-false (length B) (p + recordSize f) l) e
+      go : (b : Bool) → passes f h seen B p ≡ b → (p + recordSize f ≤ length B → Clear rows → (q : ℕ) × P next q)
+          → (q : ℕ) × P (cond b next seen) q
+      go true e again =
+          let both = both-true (stands f B p) (eqb (refused rows) 0) e in
+          again (stands-fits f B p (both .0)) (clear rows (eqb-true (refused rows) 0 (both .1)))
+      go false e again = (p, s)
 
-  pub taken-keeps : P [] (headerSize f) → (q : ℕ) × P (taken f h B .records) q
+  pub taken-keeps : P [] (headerSize f) → (q : ℕ) × P (taken f h B) q
   unfolding taken
   taken-keeps s = walk-keeps (length B) [] (headerSize f) s
 
 -- a record read from bits has nodes from 1 on, and its distance does not fall
-pub record-passes : (f : Form) (h : Header) (seen : List Filled) (B : List ℕ) (p : ℕ) → Passed h seen → wrong h seen (recordAt f seen B p) ≡ false
+pub record-passes : (f : Form) (h : Header) (seen : List Filled) (B : List ℕ) (p : ℕ) → Passed h seen
+    → Clear (recordRows f h seen (recordAt f seen B p))
     → Passed h (recordAt f seen B p ∷ seen)
 unfolding recordAt
-record-passes f h seen B p s w = (goes-on h seen (recordAt f seen B p) (omega arith) (omega arith) (omega arith) w, s)
+record-passes f h seen B p s w = (goes-on f h seen (recordAt f seen B p) (omega arith) (omega arith) (omega arith) w, s)
 
-pub taken-passed : (f : Form) (h : Header) (B : List ℕ) → Passed h (taken f h B .records)
-taken-passed f h B = taken-keeps f h B (λ seen p. Passed h seen) (λ seen p s l w. record-passes f h seen B p s w) tt .1
+pub taken-passed : (f : Form) (h : Header) (B : List ℕ) → Passed h (taken f h B)
+taken-passed f h B = taken-keeps f h B (λ seen p. Passed h seen) (λ seen p s l c. record-passes f h seen B p s c) tt .1
 
--- a reading is a refusal, or the records taken, with the end mark or without it
-pub by-reading : (f : Form) (s : List ℕ) (P : Reading → Type 0) → ((r : ℕ) → P (refused r))
-    → ((m : Bool) → P (accepted (headerAt f (bitsOf s)) (taken f (headerAt f (bitsOf s)) (bitsOf s) .records) m)) → P (reading f s)
+-- so what stands after them tells
+pub body-first : (f : Form) (h : Header) (B : List ℕ) → first (bodyRows f h B) ≡ first (nextRows f h (taken f h B) B (endOf f h B))
+unfolding bodyRows
+body-first f h B = after-clear (recordsRows f h (taken f h B)) (nextRows f h (taken f h B) B (endOf f h B))
+    (passed-clear f h (taken f h B) (taken-passed f h B))
+
+-- a sound header has two bytes at least, and an own number of the house
+pub header-sound : (f : Form) (h : Header) (s : List ℕ) → Clear (headerRows f h s) → (2 ≤ length s) × (h .own ≤ h .n)
+unfolding headerRows
+header-sound f h s c = (ltb-false (length s) 2 (c .0), ltb-false (h .n) (h .own) (c .1 .1 .0))
+
+-- a reading is a refusal, or, where no row holds, the records taken, with the end mark or without it
+pub by-reading : (f : Form) (s : List ℕ) (P : Reading → Type 0) → ((r : Refusal) → P (Reading.refused r))
+    → ((m : Bool) → Clear (fileRows f s) → P (accepted (headerAt f (bitsOf s)) (taken f (headerAt f (bitsOf s)) (bitsOf s)) m))
+    → P (reading f s)
 unfolding reading
-by-reading f s P fails holds = go (headerFault f h s)
+by-reading f s P fails holds = go (refused (fileRows f s)) refl
   where
     h : Header
     h = headerAt f (bitsOf s)
 
-    told : (e : Ending) → P (concluded h (taken f h (bitsOf s) .records) e)
-    told Unfinished = holds false
-    told Marked = holds true
-    told (Faulty r) = fails r
+    mark : Bool
+    mark = zeroBit (bitsOf s) (endOf f h (bitsOf s))
 
-    go : (r : ℕ) → P (readingBy f h (bitsOf s) r)
-    go zero = told (taken f h (bitsOf s) .ending)
-    go (suc r) = fails (suc r)
+    go : (N : ℕ) → refused (fileRows f s) ≡ N
+        → P (answerBy N (Reading.refused (first (fileRows f s))) (accepted h (taken f h (bitsOf s)) mark))
+    go zero e = holds mark (clear (fileRows f s) e)
+    go (suc N) e = fails (first (fileRows f s))

@@ -1,7 +1,6 @@
 -- 01, "Bytes", the reader, and "Refusal numbers": what it makes of any bytes.
--- Assumes nothing.
-use Prim.Native.Nat.{ℕ, zero, suc, _+_, _-_, _%_}
-use mathlib.Core.List.{List, [], _∷_}
+use Prim.Native.Nat.{ℕ, zero, suc, _+_, _-_, _*_, _%_}
+use mathlib.Core.List.{List, [], _∷_, _++_}
 use mathlib.Core.Bool.{Bool, true, false, not, _&&_, _||_}
 use lib.ListN.{length}
 use lib.Dec.{ltb, leb, eqb}
@@ -9,10 +8,11 @@ use Rattle.bits.specs.Bits.{bitsOf, field}
 use Rattle.method.specs.If.{if_then_else_}
 use Rattle.method.specs.Rules.{Filled, Phase, started, stopped, has}
 use Rattle.method.specs.Entries.{Entry, known, find, said, lastDistance}
-use Rattle.table.specs.File.{Form, headerSize, recordSize}
+use Rattle.refusal.specs.declared.Refusal.{Refusal}
+use Rattle.refusal.specs.Rows
+use Rattle.refusal.specs.Rows.{Row, _when_, _at_when_, first, answer, askRows}
+use Rattle.table.specs.File.{Form, headerSize, recordSize, start}
 use Rattle.table.specs.declared.Header.{Header}
-use Rattle.table.specs.declared.Ending.{Ending}
-use Rattle.table.specs.declared.Ending.the-variants.{Unfinished, Marked, Faulty}
 
 -- the header's fields
 unfoldable pub headerAt : Form → List ℕ → Header
@@ -23,15 +23,20 @@ headerAt f B =
       lmax = field B (4 + f .node + f .node) (f .len);
     }
 
--- "14: table file under 2 bytes", "15: table file version not 1", "16: own number over n, or LMAX 0"; 0 if none of these
-unfoldable pub headerFault : Form → Header → List ℕ → ℕ
-headerFault f h s =
-    if ltb (length s) 2 then 14
-    else if not (eqb (field (bitsOf s) 0 4) (f .version)) then 15
-    else if ltb (h .n) (h .own) || eqb (h .lmax) 0 then 16
-    else 0
+-- "File: 14, 15, 16"
+unfoldable pub headerRows : Form → Header → List ℕ → List Row
+headerRows f h s =
+    -- "table file under 2 bytes", named at the first bit that is not there
+    14 at (8 * length s) when ltb (length s) 2
+    -- "table file version not 1"
+    ∷ 15 at 0 when not (eqb (field (bitsOf s) 0 4) (f .version))
+    -- "own number over n"
+    ∷ 16 at 4 when ltb (h .n) (h .own)
+    -- "or LMAX 0"
+    ∷ 16 at (4 + f .node + f .node) when eqb (h .lmax) 0
+    ∷ []
 
--- the record at bit p, behind the records `seen`, newest first
+-- the record at bit p, after the records `seen`, newest first
 unfoldable pub recordAt : Form → List Filled → List ℕ → ℕ → Filled
 recordAt f seen B p =
     record {
@@ -40,66 +45,93 @@ recordAt f seen B p =
       distance = lastDistance seen + field B (p + 1 + f .node + f .node) (f .len);
     }
 
--- 17: "a whole record has target over n, the node itself or repeated; first hop over n or the node itself; difference over LMAX; or,
--- in the first record, difference 0"
-unfoldable pub wrongFields : Header → Bool → Bool → ℕ → ℕ → ℕ → Bool
-wrongFields h repeated first target hop difference =
-    ltb (h .n) target || eqb target (h .own) || repeated
-    || ltb (h .n) hop || eqb hop (h .own)
-    || ltb (h .lmax) difference || (first && eqb difference 0)
+-- 17: "a whole record has", in the record at bit p, each named at the field that is wrong
+unfoldable pub fieldRows : Form → Header → ℕ → Bool → Bool → ℕ → ℕ → ℕ → List Row
+fieldRows f h p repeated first target hop difference =
+    -- "target over n, the node itself or repeated"
+    17 at (p + 1) when (ltb (h .n) target || eqb target (h .own) || repeated)
+    -- "first hop over n or the node itself"
+    ∷ 17 at (p + (1 + f .node)) when (ltb (h .n) hop || eqb hop (h .own))
+    -- "difference over LMAX; or, in the first record, difference 0"
+    ∷ 17 at (p + (1 + f .node + f .node)) when (ltb (h .lmax) difference || (first && eqb difference 0))
+    ∷ []
 
--- of a record behind the records `seen`: its difference is its distance less that of the record before
-unfoldable pub wrong : Header → List Filled → Filled → Bool
-wrong h seen e = wrongFields h (has (e .target) seen) (eqb (length seen) 0) (e .target) (e .hop) (e .distance - lastDistance seen)
+-- of a record after the records `seen`: its difference is its distance less that of the record before
+abbrev pub recordRows : Form → Header → List Filled → Filled → List Row
+recordRows f h seen e =
+    fieldRows f h (start f (length seen)) (has (e .target) seen) (eqb (length seen) 0)
+    (e .target) (e .hop) (e .distance - lastDistance seen)
 
--- The records end (the code's `Ending`) unfinished, with the end mark, or faulty, with a refusal.
--- 18: "after the 0 bit, a bit not 0 or a further byte"; the 0 bit is bit p
-unfoldable pub afterZero : List ℕ → ℕ → Ending
-afterZero B p = if eqb (field B (p + 1) (7 - p % 8)) 0 && leb (length B) (p + (8 - p % 8)) then Marked else Faulty 18
+-- "records in order 17"
+unfoldable pub recordsRows : Form → Header → List Filled → List Row
+recordsRows f h [] = []
+recordsRows f h (e ∷ seen) = recordsRows f h seen ++ recordRows f h seen e
 
--- the records taken, newest first, and how they end
-pub record Taken : Type 0 where
-  pub records : List Filled
-  pub ending : Ending
+-- "the 0 bit" stands at bit p
+abbrev pub zeroBit : List ℕ → ℕ → Bool
+zeroBit B p = ltb p (length B) && eqb (field B p 1) 0
 
--- these records, with this ending
-abbrev pub takes : List Filled → Ending → Taken
-takes es e = record { records = es; ending = e }
+-- the first bit from p on that is not 0, among w
+unfoldable pub firstOne : List ℕ → ℕ → ℕ → ℕ
+firstOne B zero p = p
+firstOne B (suc w) p = if eqb (field B p 1) 0 then firstOne B w (p + 1) else p
 
--- "takes records while the next bit is 1 and 13 bits stand. Fewer than 13 bits from a 1: they are not looked at."
--- Each turn takes a record, so there are never more turns than bits.
-unfoldable pub walk : Form → Header → ℕ → List Filled → List ℕ → ℕ → Taken
-walk f h zero seen B p = takes seen Unfinished
-walk f h (suc turns) seen B p =
-    if leb (length B) p then takes seen Unfinished
-    else if eqb (field B p 1) 0 then takes seen (afterZero B p)
-    else if ltb (length B) (p + recordSize f) then takes seen Unfinished
-    else if wrong h seen (recordAt f seen B p) then takes seen (Faulty 17)
-    else walk f h turns (recordAt f seen B p ∷ seen) B (p + recordSize f)
+-- "then 18": "after the 0 bit"
+unfoldable pub endRows : List ℕ → ℕ → List Row
+endRows B p =
+    -- "a bit not 0", named at the first of them
+    18 at firstOne B (7 - p % 8) (p + 1) when (zeroBit B p && not (eqb (field B (p + 1) (7 - p % 8)) 0))
+    -- "or a further byte", named at its first bit
+    ∷ 18 at (p + (8 - p % 8)) when (zeroBit B p && ltb (p + (8 - p % 8)) (length B))
+    ∷ []
 
--- all records behind the header
-unfoldable pub taken : Form → Header → List ℕ → Taken
+-- "takes records while the next bit is 1 and 13 bits stand": one stands at bit p
+abbrev pub stands : Form → List ℕ → ℕ → Bool
+stands f B p = eqb (field B p 1) 1 && leb (p + recordSize f) (length B)
+
+-- and is not refused after the records `seen`
+abbrev pub passes : Form → Header → List Filled → List ℕ → ℕ → Bool
+passes f h seen B p = stands f B p && eqb (Rows.refused (recordRows f h seen (recordAt f seen B p))) 0
+
+-- from bit p on; each turn takes a record, so there are never more turns than bits
+unfoldable pub walk : Form → Header → ℕ → List Filled → List ℕ → ℕ → List Filled
+walk f h zero seen B p = seen
+walk f h (suc turns) seen B p = if passes f h seen B p then walk f h turns (recordAt f seen B p ∷ seen) B (p + recordSize f) else seen
+
+-- the records after the header, newest first, before the first one that is cut or refused
+unfoldable pub taken : Form → Header → List ℕ → List Filled
 taken f h B = walk f h (length B) [] B (headerSize f)
+
+-- where they end
+abbrev pub endOf : Form → Header → List ℕ → ℕ
+endOf f h B = start f (length (taken f h B))
+
+-- what stands at bit p after the records `seen`: one more record, or the end
+abbrev pub nextRows : Form → Header → List Filled → List ℕ → ℕ → List Row
+nextRows f h seen B p = if stands f B p then recordRows f h seen (recordAt f seen B p) else endRows B p
+
+-- "records in order 17, then 18"
+unfoldable pub bodyRows : Form → Header → List ℕ → List Row
+bodyRows f h B = recordsRows f h (taken f h B) ++ nextRows f h (taken f h B) B (endOf f h B)
+
+-- "File: 14, 15, 16, records in order 17, then 18"
+unfoldable pub fileRows : Form → List ℕ → List Row
+fileRows f s = headerRows f (headerAt f (bitsOf s)) s ++ bodyRows f (headerAt f (bitsOf s)) (bitsOf s)
 
 -- a file refused, or accepted: its header, its records, newest first, and whether the end mark stands
 pub data Reading : Type 0 where
-  refused : ℕ → Reading
+  refused : Refusal → Reading
   accepted : Header → List Filled → Bool → Reading
 
--- what the ending makes of the records
-abbrev pub concluded : Header → List Filled → Ending → Reading
-concluded h es Unfinished = accepted h es false
-concluded h es Marked = accepted h es true
-concluded h es (Faulty r) = refused r
-
--- by the fault of the header, 0 for none
-abbrev pub readingBy : Form → Header → List ℕ → ℕ → Reading
-readingBy f h B zero = concluded h (taken f h B .records) (taken f h B .ending)
-readingBy f h B (suc r) = refused (suc r)
-
--- "File: 14, 15, 16, records in order 17, then 18"
+-- what the reader makes of the bytes s
 unfoldable pub reading : Form → List ℕ → Reading
-reading f s = readingBy f (headerAt f (bitsOf s)) (bitsOf s) (headerFault f (headerAt f (bitsOf s)) s)
+reading f s = answer (first (fileRows f s)) refused (accepted h (taken f h B) (zeroBit B (endOf f h B)))
+  where
+    B : List ℕ
+    B = bitsOf s
+
+    h : Header
+    h = headerAt f B
 
 -- the end mark tells that the node has stopped
 abbrev pub phaseOf : Bool → Phase
@@ -112,13 +144,17 @@ entryIn h es mark y = if eqb y (h .own) then known 0 0 else said (phaseOf mark) 
 
 -- what is read: a refusal, or an entry
 pub data Read : Type 0 where
-  refusal : ℕ → Read
+  refusal : Refusal → Read
   says : Entry → Read
 
--- what a reading says of y; "then 11 for the target": "target asked for outside 1 to n"
+-- "then 11 for the target"
+abbrev pub readRows : Form → List ℕ → ℕ → List Row
+readRows f s y = fileRows f s ++ askRows (headerAt f (bitsOf s) .n) y
+
+-- what a reading says of y
 abbrev pub entryFrom : Reading → ℕ → Read
 entryFrom (refused r) y = refusal r
-entryFrom (accepted h es mark) y = if eqb y 0 || ltb (h .n) y then refusal 11 else says (entryIn h es mark y)
+entryFrom (accepted h es mark) y = answer (first (askRows (h .n) y)) refusal (says (entryIn h es mark y))
 
 -- the entry for y in the bytes s
 abbrev pub entryRead : Form → List ℕ → ℕ → Read

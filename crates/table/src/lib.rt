@@ -1,20 +1,21 @@
-// Table files, document 01, "Bytes": what their reader (crate `reader`) and their writer (crate `writer`) answer. The crate has no
-// function: it is the home of the definitions and laws of such files.
+// Table files, document 01, "Bytes": what their reader (crate `table_reader`) and their writer (crate `table_writer`) answer. The crate
+// has no function: it is the home of the definitions and laws of such files.
 use method::Distance;
+use refusal::Refusal;
 
 // What stands in the first hop's place beside a mark.
 pub const NO_HOP: u16 = 255;
 
-// An entry of a file, a mark in the distance's place where it is unknown or unreachable; or the refusal's number.
+// An entry of a file, a mark in the distance's place where it is unknown or unreachable; or a refusal.
 pub enum Answer {
     Entry(Distance, u16),
-    Refused(u32),
+    Refused(Refusal),
 }
 
-// How many numbers were written from the room's start on, or the refusal's number.
+// How many numbers were written from the room's start on; or a refusal.
 pub enum Outcome {
     Written(usize),
-    Refused(u32),
+    Refused(Refusal),
 }
 
 // What the header of a file says: the own number, n and LMAX.
@@ -28,5 +29,5 @@ pub struct Header {
 pub enum Ending {
     Unfinished,
     Marked,
-    Faulty(u32),
+    Faulty(Refusal),
 }

@@ -1,9 +1,8 @@
 -- Every run can be brought to its end by step bytes: while a node has not stopped some byte is taken (law e), and no run takes more than so
 -- many (law o).
--- Assumes nothing.
 use mathlib.Core.Path.{_≡_, refl, sym, ap, _∙_}
 use mathlib.Core.Logic.{_⊎_, inl, inr}
-use mathlib.Core.Bool.{Bool, true, false}
+use mathlib.Core.Bool.{Bool, true, false, true≢false}
 use mathlib.Core.List.{List, [], _∷_, _++_, append-assoc, map, map-append}
 use Prim.Native.Nat.{ℕ, zero, suc, _+_, _≤_}
 use native.Mathlib.Omega.{arith}
@@ -13,15 +12,13 @@ use Rattle.method.specs.If.{if_then_else_}
 use Rattle.method.specs.Network.{IsNode, Accepted}
 use Rattle.method.specs.Rules.{Phase, unstarted, started, stopped, Node}
 use Rattle.method.specs.Steps.{State, Step, byteStep, steps, Kind, taken, step, Counts, counted, counts}
-use Rattle.method.specs.Entries.{nodes, hasStopped}
+use Rattle.method.specs.Entries.{nodes, hasStopped, isStopped, stoppedTo}
 use Rattle.method.proofs.Far.{farthest}
-use Rattle.method.proofs.Ends.{AllStopped}
-use Rattle.method.proofs.Ends.{ends as list-ends, all-or-one as stopped-or-one}
+use Rattle.method.proofs.Ends.{AllStopped, ends as list-ends, all-or-one as stopped-or-one}
 use Rattle.method.proofs.Proved.{laws}
 use Rattle.method.proofs.Requests.{requests}
 use Rattle.network.specs.Checked.{Checked}
-use Rattle.entries.specs.Read.{isStopped, stoppedTo}
-use Rattle.calls.specs.Calls.{nodesOf, stateAfter, stoppedOf}
+use Rattle.call.specs.Calls.{nodesOf, stateAfter, stoppedOf}
 
 -- where the nodes 1 to k have stopped, as many have
 stopped-count : (st : State) (k : ℕ) → AllStopped (λ i. st i .node) k → stoppedTo st k ≡ k
@@ -36,6 +33,12 @@ not-stopped : (ph : Phase) → (ph ≡ stopped → ⊥) → hasStopped ph ≡ fa
 not-stopped unstarted ne = refl
 not-stopped started ne = refl
 not-stopped stopped ne = absurd (ne refl)
+
+-- a node that counts as stopped has stopped
+pub at-end : (ph : Phase) → hasStopped ph ≡ true → ph ≡ stopped
+at-end unstarted e = absurd (true≢false (sym e))
+at-end started e = absurd (true≢false (sym e))
+at-end stopped e = refl
 
 -- as many have stopped as there are, or one has not
 pub all-or-one : (st : State) (k : ℕ) → (stoppedTo st k ≡ k) ⊎ ((j : ℕ) × IsNode k j × (isStopped (st j) ≡ false))

@@ -1,6 +1,5 @@
 -- Requirement 2 holds.
--- Assumes nothing.
-use mathlib.Core.Path.{_≡_, refl, sym, ap, subst, _∙_}
+use mathlib.Core.Path.{_≡_, refl, sym, ap, ap₂, subst, _∙_}
 use mathlib.Core.Logic.{_⊎_, inl, inr, ⊎-elim, _≢_}
 use mathlib.Core.Bool.{Bool, true, false, true≢false}
 use mathlib.Core.Option.{Option, none, some}
@@ -11,48 +10,42 @@ use lib.ListN.{length, take, length-map}
 use lib.Dec.{ltb}
 use borrow.Author.Tests.{ltb-true}
 use Rattle.method.specs.If.{if_then_else_}
-use Rattle.method.specs.Network.{Arc, Net, house, IsNode}
+use Rattle.method.specs.Network.{Arc, Net, IsNode}
 use Rattle.method.specs.Rules.{Filled, Phase, unstarted, started, stopped}
-use Rattle.method.specs.Steps.{State, Step, steps, byteStep, counts, counted}
+use Rattle.method.specs.Steps.{State, Step, steps, byteStep, counts, counted, refused10}
 use Rattle.method.specs.Entries.{Entry, unknown, nodes, entry, unreachable, known, find, said, phase, table, Stopped, hasStopped}
 use Rattle.method.specs.Laws.{Leads, arrived, hop}
 use Rattle.method.proofs.Proved.{laws as method-laws}
 use Rattle.method.proofs.Always.{run-lawful}
 use Rattle.method.proofs.Said.{unreachable-no-chain}
 use Rattle.bits.proofs.Bytes.{length-packed}
-use Rattle.network.specs.Refusal.{when, _else_, outside}
-use Rattle.network.specs.Bytes.{network, refusal, size, netBits, bytesOf}
-use Rattle.network.specs.ArcList.{listRefusal}
+use Rattle.refusal.specs.Rows.{_when_, refused, _else_, outside}
+use Rattle.refusal.proofs.Rows.{else-both}
+use Rattle.network.specs.Bytes.{size, netBits, bytesOf}
 use Rattle.network.specs.Checked.{Checked, fromBytes, fromList, OfMethod}
-use Rattle.pack.specs.Pack.{packRoom}
 use Rattle.network.proofs.Refused.{inside}
 use Rattle.method.specs.Room.{begins}
 use Rattle.method.proofs.Numbers.{last-or-before}
 use Rattle.method.proofs.Room.{written, begins-read}
 use Rattle.network.proofs.Laws.{checks}
-use Rattle.entries.proofs.Reading.{stopped-le}
-use Rattle.entries.specs.Read.{isStopped, stoppedTo}
+use Rattle.run_entries.proofs.Reading.{stopped-le}
+use Rattle.method.specs.Entries.{isStopped, stoppedTo}
 use Rattle.table.specs.File.{one}
 use Rattle.table.specs.Reader.{entryRead}
 use Rattle.table.proofs.Proved.{laws as file-laws, at-most-27}
-use Rattle.route.specs.Route.{route}
-use Rattle.route.specs.Laws.{Over, lastOf}
-use Rattle.route.proofs.Laws.{laws as route-laws}
-use Rattle.calls.proofs.Ten.{never-ten}
-use Rattle.calls.proofs.Asked.{run-accepted, Asked, asked}
-use Rattle.calls.specs.Answers.{readAnswer}
-use Rattle.calls.specs.Calls.{nodesOf, stateAfter, entryAfter, countsOf, stoppedOf, tenRefusal, runRefusal, entryRefusal, entryAnswer}
-use Rattle.calls.specs.Calls.{passed, nodesPassed, routeRoom, isUnstarted, fileAfter, writeRefusal, writeRoom}
+use Rattle.method.specs.Route.{route, passed}
+use Rattle.method.specs.RouteLaws.{Over, lastOf}
+use Rattle.method.proofs.RouteLaws.{laws as route-laws}
+use Rattle.call.proofs.Asked.{Asked, asked}
+use Rattle.call.specs.Files.{readAnswer}
+use Rattle.call.specs.Calls.{nodesOf, stateAfter, entryAfter, countsOf, stoppedOf, entryRefusal, entryAnswer}
+use Rattle.call.specs.Calls.{nodesPassed, routeRefusal, routeRoom, isUnstarted, fileAfter, writeRows, writeRefusal, writeRoom}
+use Rattle.call.specs.Calls.{packRefusal, packRoom}
 use Rattle.zaqfinell.specs.Requirement2.{IsSo, Followed, RightTables, Requirement2}
 use Rattle.zaqfinell.proofs.Small.{early-bytes, early-list}
-use Rattle.zaqfinell.proofs.Ending.{all-or-one, ends}
+use Rattle.zaqfinell.proofs.Ending.{at-end, all-or-one, ends}
+use Rattle.zaqfinell.proofs.Enough.{run-fits, route-fits, pack-fits, table-fits}
 use Rattle.zaqfinell.proofs.Asked.{answered, wrote, beside}
-
--- a node that counts as stopped has stopped
-at-end : (ph : Phase) → hasStopped ph ≡ true → ph ≡ stopped
-at-end unstarted e = absurd (true≢false (sym e))
-at-end started e = absurd (true≢false (sym e))
-at-end stopped e = refl
 
 -- where as many have stopped as there are, each has
 all-stopped : (st : State) (k : ℕ) → stoppedTo st k ≡ k → (j : ℕ) → IsNode k j → isStopped (st j) ≡ true
@@ -89,6 +82,14 @@ hop-known net bs i y d h ne is (hop g l r e arc sum lt onward) =
     let same : g ≡ h = cc in
     subst (λ (x : ℕ). Known net bs x y) same (leads-known net bs y g r onward)
 
+-- 13 is given only where the rows before it do not hold
+only-13 : (o t u v : Bool) → refused (11 when o ∷ 10 when t ∷ 12 when u ∷ 13 when v ∷ []) ≡ 13 → (o ≡ false) × (u ≡ false) × (v ≡ true)
+only-13 true t u v e = absurd (omega arith)
+only-13 false true u v e = absurd (omega arith)
+only-13 false false true v e = absurd (omega arith)
+only-13 false false false true e = (refl, refl, refl)
+only-13 false false false false e = absurd (omega arith)
+
 -- of a network that is handed over, whose check sees to it that it is one of the method
 module _ (net : Checked) (sound : OfMethod net) (not-13 : net .refused ≢ 13) where
   -- what an entry says is so
@@ -122,10 +123,10 @@ module _ (net : Checked) (sound : OfMethod net) (not-13 : net .refused ≢ 13) w
       (stop, not-unknown bs i y stop)
 
   -- one step more
-  progress : (bs : List ℕ) → runRefusal net bs ≡ 0 → stoppedOf net bs < nodesOf net
+  progress : (bs : List ℕ) → net .refused ≡ 0 → stoppedOf net bs < nodesOf net
       → (b : ℕ) × (b ≤ 255) × (countsOf net (bs ++ (b ∷ [])) .taken ≡ suc (countsOf net bs .taken))
   progress bs e lt =
-      let a = run-accepted net sound bs e in
+      let a = sound e in
       let j = one-working (stateAfter net bs) (nodesOf net) lt in
       let s = method-laws (net .meant) .e-some-step (a .sizes) (a .valid) (a .positive) (steps bs) (j .0) (j .1)
       (λ st. true≢false (sym (ap hasStopped st) ∙ j .2)) in (
@@ -156,10 +157,11 @@ module _ (net : Checked) (sound : OfMethod net) (not-13 : net .refused ≢ 13) w
       }
 
   -- the nodes passed in the room
-  route-room : (bs : List ℕ) (i y : ℕ) (room : List ℕ) → entryRefusal net bs i y ≡ 0
+  route-room : (bs : List ℕ) (i y : ℕ) (room : List ℕ) → routeRefusal net bs i y (length room) ≡ 0
       → take (length (nodesPassed net bs i y)) (routeRoom net bs i y room) ≡ nodesPassed net bs i y
   route-room bs i y room e =
-      ap (take (length (nodesPassed net bs i y))) (written (entryRefusal net bs i y) room (begins (nodesPassed net bs i y) room) e)
+      ap (take (length (nodesPassed net bs i y)))
+      (written (routeRefusal net bs i y (length room)) room (begins (nodesPassed net bs i y) room) e)
       ∙ begins-read (nodesPassed net bs i y) room
 
   -- the file in the room
@@ -176,28 +178,13 @@ module _ (net : Checked) (sound : OfMethod net) (not-13 : net .refused ≢ 13) w
       long : ℕ
       long = length (fileAfter net bs i)
 
-      by-room : net .refused ≡ 0 → outside (nodesOf net) i ≡ false → (u : Bool) → isUnstarted (phase (net .meant) (steps bs) i) ≡ u
-          → (t : Bool) → ltb 27 long ≡ t → when u 12 else when t 13 ≢ 13
-      by-room z out true un t ef e = omega arith
-      by-room z out false un false ef e = omega arith
-      by-room z out false un true ef e =
-          let a = sound z in
-          let up : phase (net .meant) (steps bs) i ≢ unstarted = λ q. true≢false (sym (ap isUnstarted q) ∙ un) in
-          omega (arith, ltb-true 27 long ef, at-most-27 (net .meant) a (steps bs) i (inside (nodesOf net) i out, up))
-
-      by-node : net .refused ≡ 0 → (o : Bool) → outside (nodesOf net) i ≡ o
-          → when o 11 else tenRefusal net bs else when (isUnstarted (phase (net .meant) (steps bs) i)) 12 else when (ltb 27 long) 13 ≢ 13
-      by-node z true out e = omega arith
-      by-node z false out e =
-          by-room z out (isUnstarted (phase (net .meant) (steps bs) i)) refl (ltb 27 long) refl
-          (sym (ap (λ (r : ℕ). r else when (isUnstarted (phase (net .meant) (steps bs) i)) 12 else when (ltb 27 long) 13)
-          (never-ten net bs sound z)) ∙ e)
-
-      by-net : (r : ℕ) → net .refused ≡ r
-          → (r else when (outside (nodesOf net) i) 11 else tenRefusal net bs else when (isUnstarted (phase (net .meant) (steps bs) i)) 12
-          else when (ltb 27 long) 13) ≢ 13
-      by-net zero z e = by-node z (outside (nodesOf net) i) refl e
+      by-net : (r : ℕ) → net .refused ≡ r → r else refused (writeRows (net .meant) (steps bs) i 27) ≢ 13
       by-net (suc r) z e = not-13 (z ∙ e)
+      by-net zero z e =
+          let p = only-13 (outside (nodesOf net) i) (refused10 (net .meant) (steps bs)) (isUnstarted (phase (net .meant) (steps bs) i))
+          (ltb 27 long) e in
+          let up : phase (net .meant) (steps bs) i ≢ unstarted = λ q. true≢false (sym (ap isUnstarted q) ∙ p .1) in
+          omega (arith, ltb-true 27 long (p .2), at-most-27 (net .meant) (sound z) (steps bs) i (inside (nodesOf net) i (p .0), up))
 
   -- read back
   same : (bs : List ℕ) (i wide : ℕ) → writeRefusal net bs i wide ≡ 0 → (y : ℕ) → IsNode (nodesOf net) y
@@ -220,19 +207,27 @@ module _ (net : Checked) (sound : OfMethod net) (not-13 : net .refused ≢ 13) w
         route-room = route-room;
         written = file-room;
         fits = fits;
+        run-fits = run-fits net sound not-13;
+        route-fits = route-fits net sound not-13;
+        pack-fits = pack-fits net sound not-13;
         same = same;
       }
 
 -- the bytes of an arc list, in the room
-both-entries : (n lmax : ℕ) (ar : List Arc) (room : List ℕ) → listRefusal n lmax ar ≡ 0
-    → (refusal (take (size (length ar)) (packRoom (fromList n lmax ar) room)) ≡ 0) × (network
-    (take (size (length ar)) (packRoom (fromList n lmax ar) room)) ≡ house n lmax ar)
+both-entries : (n lmax : ℕ) (ar : List Arc) (room : List ℕ) → packRefusal (fromList n lmax ar) (length room) ≡ 0
+    → fromBytes (take (size (length ar)) (packRoom (fromList n lmax ar) room)) ≡ fromList n lmax ar
 both-entries n lmax ar room e =
     let whole = length-packed (size (length ar)) (netBits n lmax ar) in
-    let is = ap (take (size (length ar))) (written (listRefusal n lmax ar) room (begins (bytesOf n lmax ar) room) e)
+    let taken = else-both (fromList n lmax ar .refused) _ e .0 in
+    let is = ap (take (size (length ar)))
+    (written (packRefusal (fromList n lmax ar) (length room)) room (begins (bytesOf n lmax ar) room) e)
     ∙ ap (λ (k : ℕ). take k (begins (bytesOf n lmax ar) room)) (sym whole)
     ∙ begins-read (bytesOf n lmax ar) room in
-    subst (λ (s : List ℕ). (refusal s ≡ 0) × (network s ≡ house n lmax ar)) (sym is) (checks .list-as-bytes n lmax ar e)
+    let bytes = checks .list-as-bytes n lmax ar taken in
+    ap fromBytes is ∙ ap₂ (λ (r : ℕ) (m : Net). checked r m) (bytes .0 ∙ sym taken) (bytes .1)
+  where
+    checked : ℕ → Net → Checked
+    checked r m = record { refused = r; meant = m }
 
 pub requirement2 : Requirement2
 requirement2 =
@@ -240,4 +235,5 @@ requirement2 =
       bytes = λ s. right-tables (fromBytes s) (checks .bytes-accepted s) (early-bytes s .1);
       list = λ n lmax ar. right-tables (fromList n lmax ar) (checks .list-accepted n lmax ar) (early-list n lmax ar .1);
       both-entries = both-entries;
+      table-fits = table-fits;
     }

@@ -1,115 +1,103 @@
--- `deliver`: idle, kept, or worked on.
-use Rattle.run.proofs.Rested.{i-node, sent-low}
-use Rattle.run.proofs.Acting.{nothing-there, same-place, no-work, waits-elsewhere, delivery-working, chosen-again, works-on}
-use Rattle.cells.specs.Part.{phaseAt, sentCount, waitsAt, deliveredAt, cells}
-use mathlib.Core.Path.{_≡_}
-use Prim.Native.Nat.{_+_, _<_}
+-- `deliver`: kept, or worked on.
+use mathlib.Core.Path.{_≡_, sym, _∙_}
+use Prim.Native.Nat.{_+_, _/_, _%_}
 use native.Mathlib.Omega.{arith}
 use borrow.Author.Needs.{needs}
+use borrow.Author.Tests.{eqb-true, eqb-false, not-true, not-false}
+use Rattle.run_cells.specs.Part.{phaseAt, waitsAt, cells}
+use Rattle.run.proofs.Rested.{i-node, sent-low}
+use Rattle.run.proofs.Acting.{same-place, no-work, waits-elsewhere, delivery-working, chosen-again, works-on}
 use Rattle.run.proofs.deliver.Statement.{statement}
 use Rattle.run.proofs.deliver.Tie as tie
 
-get-requires : tie.Need-get-requires
-get-requires c κs =
+hand-over-requires : tie.Need-hand-over-requires
+hand-over-requires c κs =
     let a = c .before .before .before .args in
-    let p = c .before .before .before .pre in (
-      i-node (a .net .now) (p .0) (cells (a .s .now)) (p .1) (a .h) (p .3) .0,
-      i-node (a .net .now) (p .0) (cells (a .s .now)) (p .1)
-          (a .h) (p .3) .1,
-      omega arith,
-      p .4,
-    )
+    let p = c .before .before .before .pre in
+    let low = sent-low (a .net .now) (p .0) (cells (a .s .now)) (p .1) (a .site % 16 + 1) (p .3) in
+    (p .5, omega (arith, p .4), p .6)
 
-add-get : tie.Need-add-get
-add-get c = search needs
-
-get-requires-2 : tie.Need-get-requires-2
-get-requires-2 c κs =
-    let a = c .before .before .before .before .before .args in
-    let p = c .before .before .before .before .before .pre in
-    let l = i-node (a .net .now) (p .0) (cells (a .s .now)) (p .1) (a .h) (p .3) .1 in (
-      i-node (a .net .now) (p .0) (cells (a .s .now)) (p .1) (a .i) (p .2) .0,
-      i-node (a .net .now) (p .0) (cells (a .s .now)) (p .1)
-          (a .i) (p .2) .1,
-      omega arith,
-      p .4,
-    )
+waits-for-requires : tie.Need-waits-for-requires
+waits-for-requires c κs = (c .before .before .before .before .before .before .before .pre .5, search needs)
 
 same-length : tie.Need-same-length
 same-length c = search needs
 
 returns : tie.Need-returns
 returns c =
-    let a = c .before .before .before .before .before .before .before .args in
-    let p = c .before .before .before .before .before .before .before .pre in
-    let get = c .before .before .before .get in
-    nothing-there (a .net .now) (p .0) (cells (a .s .now)) (p .1) (a .i) (p .2) (a .h) (p .3) (omega (
-      arith,
-      get .ensures .0,
-      (c .before .get2) .ensures .0,
-    ))
+    let a = c .before .before .before .before .before .before .before .before .before .args in
+    let p = c .before .before .before .before .before .before .before .before .before .pre in
+    let m = cells (a .s .now) in
+    let i = a .site / 16 + 1 in
+    let h = a .site % 16 + 1 in
+    let over = c .before .before .before .before .before .hand-over in
+    let n = cells (over .last .0) in
+    let same = same-place (a .net .now) (p .0) m (p .1) i (p .2) h (p .3) (p .4) n (over .ensures) waitsAt (omega arith) in
+    waits-elsewhere (a .net .now) (p .0) m (p .1) i (p .2) h (p .3) (p .4) n (over .ensures)
+    (λ e. eqb-false (n i waitsAt) h (sym (c .before .waits-for .ensures) ∙ not-true _ (c .if1 .taken)) (same ∙ e))
 
-add-count : tie.Need-add-count
-add-count c = search needs
+add-i : tie.Need-add-i
+add-i c = search needs
 
-count-requires : tie.Need-count-requires
-count-requires c κs =
-    let a = c .before .before .before .before .before .before .before .before .args in
-    let p = c .before .before .before .before .before .before .before .before .pre in
-    let get = c .before .before .before .before .get in
-    let get2 = c .before .before .get2 in
-    let l = i-node (a .net .now) (p .0) (cells (a .s .now)) (p .1) (a .h) (p .3) .1 in (
-      i-node (a .net .now) (p .0) (cells (a .s .now)) (p .1) (a .i) (p .2) .0,
-      i-node (a .net .now) (p .0) (cells (a .s .now)) (p .1) (a .i) (p .2) .1,
-      omega arith,
-      omega (arith, get .ensures .0, get2 .ensures .0, sent-low (a .net .now) (p .0) (cells (a .s .now)) (p .1) (a .h) (p .3)),
-      p .4,
-    )
-
-get-requires-3 : tie.Need-get-requires-3
-get-requires-3 c κs =
-    let a = c .before .before .before .before .before .before .before .before .before .before .before .before .args in
-    let p = c .before .before .before .before .before .before .before .before .before .before .before .before .pre in (
-      i-node (a .net .now) (p .0) (cells (a .s .now)) (p .1) (a .i) (p .2) .0,
-      i-node (a .net .now) (p .0) (cells (a .s .now)) (p .1)
-          (a .i) (p .2) .1,
-      omega arith,
-      search needs,
-    )
+get-requires : tie.Need-get-requires
+get-requires c κs =
+    let a = c .before .before .before .before .before .before .before .before .before .before .args in
+    let p = c .before .before .before .before .before .before .before .before .before .before .pre in
+    let i = i-node (a .net .now) (p .0) (cells (a .s .now)) (p .1) (a .site / 16 + 1) (p .2) in
+    (i .0, i .1, omega arith, search needs)
 
 same-length-2 : tie.Need-same-length-2
 same-length-2 c = search needs
 
 returns-2 : tie.Need-returns-2
 returns-2 c =
-    let a = c .before .before .before .before .before .before .before .before .before .before .before .before .before .before .args in
-    let p = c .before .before .before .before .before .before .before .before .before .before .before .before .before .before .pre in
-    let get = c .before .before .before .before .before .before .before .before .before .before .get in
-    let get2 = c .before .before .before .before .before .before .before .before .get2 in
-    let if1 = c .before .before .before .before .before .before .before .if1 in
-    let count = c .before .before .before .before .before .count in
-    let get3 = c .before .get3 in
+    let a = c .before .before .before .before .before .before .before .before .before .before .before .before .args in
+    let p = c .before .before .before .before .before .before .before .before .before .before .before .before .pre in
     let m = cells (a .s .now) in
-    let n = cells (count .last .0) in
-    let lt : m (a .i) (deliveredAt + a .h) < m (a .h) sentCount = omega (arith, get .ensures .0, get2 .ensures .0, if1 .left) in
-    waits-elsewhere (a .net .now) (p .0) m (p .1) (a .i) (p .2) (a .h) (p .3) lt n (count .ensures)
-    (omega (
-      arith,
-      get3 .ensures .0,
-      same-place (a .net .now) (p .0) m (p .1) (a .i) (p .2) (a .h) (p .3) lt n (count .ensures) waitsAt
-          (omega arith),
-    ))
+    let i = a .site / 16 + 1 in
+    let h = a .site % 16 + 1 in
+    let over = c .before .before .before .before .before .before .before .before .hand-over in
+    let n = cells (over .last .0) in
+    let same = same-place (a .net .now) (p .0) m (p .1) i (p .2) h (p .3) (p .4) n (over .ensures) phaseAt (omega arith) in
+    no-work (a .net .now) (p .0) m (p .1) i (p .2) h (p .3) (p .4) n (over .ensures) (omega (arith, c .before .get .ensures .0, same))
 
-get-requires-4 : tie.Need-get-requires-4
-get-requires-4 c κs =
+add-h : tie.Need-add-h
+add-h c = search needs
+
+add-get : tie.Need-add-get
+add-get c = search needs
+
+get-requires-2 : tie.Need-get-requires-2
+get-requires-2 c κs =
+    let a = c .before .before .before .before .before .before .before .before .before .before .before .before .before .args in
+    let p = c .before .before .before .before .before .before .before .before .before .before .before .before .before .pre in
+    let i = i-node (a .net .now) (p .0) (cells (a .s .now)) (p .1) (a .site / 16 + 1) (p .2) in
+    let h = i-node (a .net .now) (p .0) (cells (a .s .now)) (p .1) (a .site % 16 + 1) (p .3) in
+    (i .0, i .1, omega arith, search needs)
+
+work-from-requires : tie.Need-work-from-requires
+work-from-requires c κs =
     let a = c .before .before .before .before .before .before .before .before .before .before .before .before .before .before .before
     .args in
     let p = c .before .before .before .before .before .before .before .before .before .before .before .before .before .before .before .pre
-    in (
-      i-node (a .net .now) (p .0) (cells (a .s .now)) (p .1) (a .i) (p .2) .0,
-      i-node (a .net .now) (p .0) (cells (a .s .now)) (p .1)
-          (a .i) (p .2) .1,
-      omega arith,
+    in
+    let m = cells (a .s .now) in
+    let i = a .site / 16 + 1 in
+    let h = a .site % 16 + 1 in
+    let over = c .before .before .before .before .before .before .before .before .before .before .before .hand-over in
+    let n = cells (over .last .0) in
+    let awake = same-place (a .net .now) (p .0) m (p .1) i (p .2) h (p .3) (p .4) n (over .ensures) phaseAt (omega arith) in
+    let for-it = same-place (a .net .now) (p .0) m (p .1) i (p .2) h (p .3) (p .4) n (over .ensures) waitsAt (omega arith) in
+    let up : m i phaseAt ≡ 1 =
+    omega (arith, c .before .before .before .before .get .ensures .0, c .before .before .before .if2 .left, awake) in
+    let w : m i waitsAt ≡ h =
+    sym for-it ∙ eqb-true (n i waitsAt) h
+    (sym (c .before .before .before .before .before .before .before .waits-for .ensures)
+    ∙ not-false _ (c .before .before .before .before .before .before .if1 .left)) in
+    let x = c .before .get2 in (
+      p .0,
+      delivery-working (a .net .now) (p .0) m (p .1) i (p .2) h (p .3) (p .4) n (over .ensures) up,
+      chosen-again (a .net .now) (p .0) m (p .1) i (p .2) h (p .3) (p .4) n (over .ensures) up w (x .result) (x .ensures .0),
       search needs,
     )
 
@@ -119,135 +107,41 @@ same-length-3 c = search needs
 returns-3 : tie.Need-returns-3
 returns-3 c =
     let a = c .before .before .before .before .before .before .before .before .before .before .before .before .before .before .before
-    .before .before .args in
-    let p = c .before .before .before .before .before .before .before .before .before .before .before .before .before .before .before
-    .before .before .pre in
-    let get = c .before .before .before .before .before .before .before .before .before .before .before .before .before .get in
-    let get2 = c .before .before .before .before .before .before .before .before .before .before .before .get2 in
-    let if1 = c .before .before .before .before .before .before .before .before .before .before .if1 in
-    let count = c .before .before .before .before .before .before .before .before .count in
-    let get4 = c .before .get4 in
-    let m = cells (a .s .now) in
-    let n = cells (count .last .0) in
-    let lt : m (a .i) (deliveredAt + a .h) < m (a .h) sentCount = omega (arith, get .ensures .0, get2 .ensures .0, if1 .left) in
-    no-work (a .net .now) (p .0) m (p .1) (a .i) (p .2) (a .h) (p .3) lt n (count .ensures)
-    (omega (
-      arith,
-      get4 .ensures .0,
-      same-place (a .net .now) (p .0) m (p .1) (a .i) (p .2) (a .h) (p .3) lt n (count .ensures) phaseAt
-          (omega arith),
-    ))
-
-add-get-2 : tie.Need-add-get-2
-add-get-2 c = search needs
-
-get-requires-5 : tie.Need-get-requires-5
-get-requires-5 c κs =
-    let a = c .before .before .before .before .before .before .before .before .before .before .before .before .before .before .before
     .before .before .before .args in
     let p = c .before .before .before .before .before .before .before .before .before .before .before .before .before .before .before
     .before .before .before .pre in
-    let l = i-node (a .net .now) (p .0) (cells (a .s .now)) (p .1) (a .h) (p .3) .1 in (
-      i-node (a .net .now) (p .0) (cells (a .s .now)) (p .1) (a .i) (p .2) .0,
-      i-node (a .net .now) (p .0) (cells (a .s .now)) (p .1)
-          (a .i) (p .2) .1,
-      omega arith,
-      search needs,
-    )
-
-work-from-requires : tie.Need-work-from-requires
-work-from-requires c κs =
-    let a = c .before .before .before .before .before .before .before .before .before .before .before .before .before .before .before
-    .before .before .before .before .before .args in
-    let p = c .before .before .before .before .before .before .before .before .before .before .before .before .before .before .before
-    .before .before .before .before .before .pre in
-    let get = c .before .before .before .before .before .before .before .before .before .before .before .before .before .before .before
-    .before .get in
-    let get2 = c .before .before .before .before .before .before .before .before .before .before .before .before .before .before .get2 in
-    let if1 = c .before .before .before .before .before .before .before .before .before .before .before .before .before .if1 in
-    let count = c .before .before .before .before .before .before .before .before .before .before .before .count in
-    let get3 = c .before .before .before .before .before .before .before .get3 in
-    let if2 = c .before .before .before .before .before .before .if2 in
-    let get4 = c .before .before .before .before .get4 in
-    let if3 = c .before .before .before .if3 in
-    let get5 = c .before .get5 in
     let m = cells (a .s .now) in
-    let n = cells (count .last .0) in
-    let lt : m (a .i) (deliveredAt + a .h) < m (a .h) sentCount = omega (arith, get .ensures .0, get2 .ensures .0, if1 .left) in
-    let up : m (a .i) phaseAt ≡ 1 =
-    omega (
-      arith,
-      get4 .ensures .0,
-      if3 .left,
-      same-place (a .net .now) (p .0) m (p .1) (a .i) (p .2) (a .h) (p .3) lt n
-          (count .ensures) phaseAt (omega arith),
-    ) in
-    let w : m (a .i) waitsAt ≡ a .h =
-    omega (
-      arith,
-      get3 .ensures .0,
-      if2 .left,
-      same-place (a .net .now) (p .0) m (p .1) (a .i) (p .2) (a .h) (p .3) lt n
-          (count .ensures) waitsAt (omega arith),
-    ) in (
-      p .0,
-      delivery-working (a .net .now) (p .0) m (p .1) (a .i) (p .2) (a .h) (p .3) lt n (count .ensures) up,
-      chosen-again (a .net .now)
-          (p .0) m (p .1) (a .i) (p .2) (a .h) (p .3) lt n (count .ensures) up w (get5 .result) (get5 .ensures .0),
-      search needs,
-    )
-
-same-length-4 : tie.Need-same-length-4
-same-length-4 c = search needs
-
-returns-4 : tie.Need-returns-4
-returns-4 c =
-    let a = c .before .before .before .before .before .before .before .before .before .before .before .before .before .before .before
-    .before .before .before .before .before .before .before .before .args in
-    let p = c .before .before .before .before .before .before .before .before .before .before .before .before .before .before .before
-    .before .before .before .before .before .before .before .before .pre in
-    let get = c .before .before .before .before .before .before .before .before .before .before .before .before .before .before .before
-    .before .before .before .before .get in
-    let get2 = c .before .before .before .before .before .before .before .before .before .before .before .before .before .before .before
-    .before .before .get2 in
-    let if1 = c .before .before .before .before .before .before .before .before .before .before .before .before .before .before .before
-    .before .if1 in
-    let count = c .before .before .before .before .before .before .before .before .before .before .before .before .before .before .count in
-    let get4 = c .before .before .before .before .before .before .before .get4 in
-    let if3 = c .before .before .before .before .before .before .if3 in
+    let i = a .site / 16 + 1 in
+    let h = a .site % 16 + 1 in
+    let over = c .before .before .before .before .before .before .before .before .before .before .before .before .before .before
+    .hand-over in
+    let n = cells (over .last .0) in
     let work = c .before .before .work-from in
-    let m = cells (a .s .now) in
-    let n = cells (count .last .0) in
-    let lt : m (a .i) (deliveredAt + a .h) < m (a .h) sentCount = omega (arith, get .ensures .0, get2 .ensures .0, if1 .left) in
-    let up : m (a .i) phaseAt ≡ 1 =
+    let awake = same-place (a .net .now) (p .0) m (p .1) i (p .2) h (p .3) (p .4) n (over .ensures) phaseAt (omega arith) in
+    let up : m i phaseAt ≡ 1 =
     omega (
       arith,
-      get4 .ensures .0,
-      if3 .left,
-      same-place (a .net .now) (p .0) m (p .1) (a .i) (p .2) (a .h) (p .3) lt n
-          (count .ensures) phaseAt (omega arith),
+      c .before .before .before .before .before .before .before .get .ensures .0,
+      c .before .before .before .before .before .before .if2 .left,
+      awake,
     ) in
-    works-on (a .net .now) (p .0) m (p .1) (a .i) (p .2) (a .h) (p .3) lt n (count .ensures) up (cells (work .last .1 .0)) (work .ensures)
+    works-on (a .net .now) (p .0) m (p .1) i (p .2) h (p .3) (p .4) n (over .ensures) up (cells (work .last .1 .0)) (work .ensures)
 
 pub deliver-spec : {M : Type 1} → statement M
 deliver-spec =
     tie.close
     (tie.spec
-    get-requires
-    add-get
-    get-requires-2
+    hand-over-requires
+    waits-for-requires
     same-length
     returns
-    add-count
-    count-requires
-    get-requires-3
+    add-i
+    get-requires
     same-length-2
     returns-2
-    get-requires-4
-    same-length-3
-    returns-3
-    add-get-2
-    get-requires-5
+    add-h
+    add-get
+    get-requires-2
     work-from-requires
-    same-length-4
-    returns-4)
+    same-length-3
+    returns-3)

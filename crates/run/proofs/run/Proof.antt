@@ -2,7 +2,7 @@
 use Rattle.run.proofs.Beginning.{fresh-state, begins}
 use Rattle.run.proofs.Running.{SoFar, counted-le, nothing-done, one-done, all-done}
 use Rattle.run.specs.Ran.{kindOf, tallied}
-use Rattle.cells.specs.Part.{stateSize, cells}
+use Rattle.run_cells.specs.Part.{stateSize, cells}
 use lib.ListN.{length}
 use mathlib.Core.Path.{_≡_, _∙_, sym}
 use Prim.Native.Nat.{_-_, _≤_}

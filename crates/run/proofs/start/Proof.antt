@@ -1,7 +1,7 @@
 -- `start`: idle, or begun and worked.
 use Rattle.run.proofs.Rested.{i-node}
 use Rattle.run.proofs.Acting.{started-already, blank-sent, blank-table, start-working, started-now}
-use Rattle.cells.specs.Part.{phaseAt, cells}
+use Rattle.run_cells.specs.Part.{phaseAt, cells}
 use mathlib.Core.Path.{_≡_, _∙_, sym}
 use native.Mathlib.Omega.{arith}
 use borrow.Author.Needs.{needs}

@@ -1,0 +1,38 @@
+-- What is known where a call that takes a network refuses nothing: the network is accepted, and the nodes asked for are in it.
+use mathlib.Core.Path.{_≡_, sym, ap, _∙_}
+use mathlib.Core.List.{List}
+use Prim.Native.Nat.{ℕ}
+use lib.ListN.{length}
+use Rattle.method.specs.Network.{IsNode, Accepted}
+use Rattle.method.specs.Steps.{steps}
+use Rattle.refusal.specs.Rows.{refused, roomRows, _else_}
+use Rattle.refusal.proofs.Rows.{clear, rows-else, else-both, else-assoc}
+use Rattle.network.specs.Checked.{Checked, OfMethod}
+use Rattle.network.proofs.Refused.{inside}
+use Rattle.call.specs.Calls.{nodesOf, entryRows, entryRefusal, nodesPassed, routeRefusal}
+
+-- the network is accepted, and node and target are in it
+pub record Asked (net : Checked) (i y : ℕ) : Type 0 where
+  pub taken : net .refused ≡ 0
+  pub accepted : Accepted (net .meant)
+  pub node : IsNode (nodesOf net) i
+  pub target : IsNode (nodesOf net) y
+
+pub asked : (net : Checked) → OfMethod net → (bs : List ℕ) (i y : ℕ) → entryRefusal net bs i y ≡ 0 → Asked net i y
+asked net sound bs i y e =
+    let both = else-both (net .refused) _ e in
+    let c = clear (entryRows (net .meant) (steps bs) i y) (both .1) in
+    record {
+      taken = both .0;
+      accepted = sound (both .0);
+      node = inside (nodesOf net) i (c .0);
+      target = inside (nodesOf net) y (c .1 .0);
+    }
+
+-- a route is refused as an entry is, and then for its room
+pub route-else : (net : Checked) (bs : List ℕ) (i y wide : ℕ)
+    → routeRefusal net bs i y wide ≡ entryRefusal net bs i y else refused (roomRows wide (length (nodesPassed net bs i y)))
+route-else net bs i y wide =
+    let room = roomRows wide (length (nodesPassed net bs i y)) in
+    ap (λ (q : ℕ). net .refused else q) (rows-else (entryRows (net .meant) (steps bs) i y) room)
+    ∙ sym (else-assoc (net .refused) (refused (entryRows (net .meant) (steps bs) i y)) (refused room))

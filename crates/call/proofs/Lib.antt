@@ -1,0 +1,5 @@
+pub mod Ten
+pub mod Asked
+pub mod Passed
+pub mod Found
+pub mod FilesSmall

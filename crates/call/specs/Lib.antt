@@ -1,0 +1,5 @@
+pub mod Answers
+pub mod Files
+pub mod Calls
+pub mod Promises
+pub mod Kept

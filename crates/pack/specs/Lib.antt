@@ -1,2 +1,0 @@
-pub mod Pack
-pub mod Pairs

@@ -1,2 +1,0 @@
-pub mod ByteRest
-pub mod SoundHeader

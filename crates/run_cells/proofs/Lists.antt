@@ -1,0 +1,35 @@
+-- The lists that a part means: how long they are, and each message of them.
+use mathlib.Core.Path.{_≡_, refl, ap}
+use Prim.Native.Nat.{ℕ, zero, suc, _+_, _-_, _≤_, _<_}
+use native.Mathlib.Omega.{arith}
+use lib.ListN.{length, getD, drop}
+use Rattle.method.specs.Message.{end, oldest, sentAfter}
+use Rattle.run_cells.specs.Part.{Part, messagesAt, msgOf, sentFrom, tableFrom}
+
+pub sent-length : (f : Part) (k : ℕ) → length (sentFrom f k) ≡ k
+sent-length f zero = refl
+sent-length f (suc k) = ap suc (sent-length f k)
+
+pub table-length : (f : Part) (k : ℕ) → length (tableFrom f k) ≡ k
+table-length f zero = refl
+table-length f (suc k) = ap suc (table-length f k)
+
+message-at : (f : Part) (d k t : ℕ) → k ≡ suc t + d → getD (sentFrom f k) d end ≡ msgOf (sentFrom f t) (f (messagesAt + t))
+message-at f d zero t e = absurd (omega arith)
+message-at f zero (suc k) t e = let q : k ≡ t = omega arith in rw q
+message-at f (suc d) (suc k) t e = message-at f d k t (omega arith)
+
+-- the message sent after t others
+pub sent-after : (f : Part) (k t : ℕ) → t < k → sentAfter t (sentFrom f k) ≡ msgOf (sentFrom f t) (f (messagesAt + t))
+unfolding sentAfter
+sent-after f k t lt = rw (sent-length f k) (message-at f (k - suc t) k t (omega arith))
+
+-- the t oldest are the first t
+dropped : (f : Part) (d k t : ℕ) → k ≡ t + d → drop d (sentFrom f k) ≡ sentFrom f t
+dropped f zero k t e = let q : k ≡ t = omega arith in ap (sentFrom f) q
+dropped f (suc d) zero t e = absurd (omega arith)
+dropped f (suc d) (suc k) t e = dropped f d k t (omega arith)
+
+pub sent-oldest : (f : Part) (k t : ℕ) → t ≤ k → oldest t (sentFrom f k) ≡ sentFrom f t
+unfolding oldest
+sent-oldest f k t le = rw (sent-length f k) (dropped f (k - t) k t (omega arith))

@@ -1,0 +1,4 @@
+pub mod Found
+pub mod Answering
+pub mod Listed
+pub mod AllRead

@@ -1,0 +1,105 @@
+-- The tests mean what 01 says.
+use mathlib.Core.Path.{_≡_, refl, sym, subst}
+use mathlib.Core.Logic.{_⊎_, inl, inr, _↔_}
+use mathlib.Core.Bool.{Bool, true, false, _&&_, _||_, true≢false}
+use mathlib.Core.List.{List, [], _∷_, map}
+use Prim.Native.Nat.{ℕ, zero, suc, _<_}
+use native.Mathlib.Omega.{arith}
+use lib.Dec.{ltb, eqb}
+use lib.ListN.{length}
+use borrow.Author.Tests.{eqb-true, eq-eqb, ltb-true, lt-ltb}
+use Rattle.method.specs.Distinct.{Among}
+use Rattle.method.specs.Network.{Arc, IsNode, IsArc}
+use Rattle.method.specs.Rules.{Filled, Phase, unstarted, started, stopped, has}
+use Rattle.method.specs.Steps.{State, sents, overfull, run}
+use Rattle.method.proofs.Numbers.{last-or-before}
+use Rattle.network.specs.Refusal.{joined}
+use Rattle.call.specs.Calls.{isUnstarted}
+use Rattle.zaqfinell.specs.Tests.{Tests}
+
+-- of two tests, one holds
+or-cases : (t u : Bool) → t || u ≡ true → (t ≡ true) ⊎ (u ≡ true)
+or-cases true u e = inl refl
+or-cases false u e = inr e
+
+or-left : (t u : Bool) → t ≡ true → t || u ≡ true
+or-left t u e = rw e
+
+or-right : (t u : Bool) → u ≡ true → t || u ≡ true
+or-right true u e = refl
+or-right false u e = e
+
+pub and-both : (t u : Bool) → t && u ≡ true → (t ≡ true) × (u ≡ true)
+and-both true u e = (refl, e)
+and-both false u e = absurd (true≢false (sym e))
+
+-- an earlier arc
+arc-there : (ar : List Arc) (i j : ℕ) → joined ar i j ≡ true → (l : ℕ) × IsArc ar i j l
+unfolding joined
+arc-there [] i j e = absurd (true≢false (sym e))
+arc-there (a ∷ ar) i j e = go (or-cases (eqb (a .tail) i && eqb (a .head) j) (joined ar i j) e) (arc-there ar i j)
+  where
+    go : (eqb (a .tail) i && eqb (a .head) j ≡ true) ⊎ (joined ar i j ≡ true) → (joined ar i j ≡ true → (l : ℕ) × IsArc ar i j l)
+        → (l : ℕ) × IsArc (a ∷ ar) i j l
+    go (inl f) rec =
+        let both = and-both (eqb (a .tail) i) (eqb (a .head) j) f in
+        (a .len, inl (eqb-true (a .tail) i (both .0), eqb-true (a .head) j (both .1), refl))
+    go (inr f) rec = let p = rec f in (p .0, inr (p .1))
+
+arc-joins : (ar : List Arc) (i j l : ℕ) → IsArc ar i j l → joined ar i j ≡ true
+unfolding joined
+arc-joins [] i j l p = absurd p
+arc-joins (a ∷ ar) i j l (inl p) = rw (eq-eqb (a .tail) i (p .0), eq-eqb (a .head) j (p .1))
+arc-joins (a ∷ ar) i j l (inr p) = or-right (eqb (a .tail) i && eqb (a .head) j) (joined ar i j) (arc-joins ar i j l p)
+
+-- one of the nodes 1 to k has sent more than 257 messages
+abbrev Overfull : State → ℕ → Type 0
+Overfull st k = (i : ℕ) × IsNode k i × (257 < length (sents st i))
+
+full-there : (st : State) (k : ℕ) → overfull st k ≡ true → Overfull st k
+full-there st zero e = absurd (true≢false (sym e))
+full-there st (suc k) e = go (or-cases (ltb 257 (length (sents st (suc k)))) (overfull st k) e) (full-there st k)
+  where
+    go : (ltb 257 (length (sents st (suc k))) ≡ true) ⊎ (overfull st k ≡ true) → (overfull st k ≡ true → Overfull st k)
+        → Overfull st (suc k)
+    go (inl f) rec = (suc k, (omega arith, omega arith), ltb-true 257 (length (sents st (suc k))) f)
+    go (inr f) rec = let p = rec f in let at = p .1 in (p .0, (omega arith, omega arith), p .2)
+
+full-tells : (st : State) (k i : ℕ) → IsNode k i → 257 < length (sents st i) → overfull st k ≡ true
+full-tells st zero i at many = absurd (omega arith)
+full-tells st (suc k) i at many = go (last-or-before k i at) (λ there. full-tells st k i there many)
+  where
+    go : (i ≡ suc k) ⊎ IsNode k i → (IsNode k i → overfull st k ≡ true) → overfull st (suc k) ≡ true
+    go (inl e) rec =
+        or-left (ltb 257 (length (sents st (suc k)))) (overfull st k)
+        (lt-ltb 257 (length (sents st (suc k))) (subst (λ (j : ℕ). 257 < length (sents st j)) e many))
+    go (inr there) rec = or-right (ltb 257 (length (sents st (suc k)))) (overfull st k) (rec there)
+
+unstarted-is : (ph : Phase) → isUnstarted ph ≡ true → ph ≡ unstarted
+unstarted-is unstarted e = refl
+unstarted-is started e = absurd (true≢false (sym e))
+unstarted-is stopped e = absurd (true≢false (sym e))
+
+-- a target that stands already
+target-there : (y : ℕ) (es : List Filled) → has y es ≡ true → Among y (map (λ (r : Filled). r .target) es)
+target-there y [] e = absurd (true≢false (sym e))
+target-there y (f ∷ es) e = go (or-cases (eqb y (f .target)) (has y es) e) (target-there y es)
+  where
+    go : (eqb y (f .target) ≡ true) ⊎ (has y es ≡ true) → (has y es ≡ true → Among y (map (λ (r : Filled). r .target) es))
+        → Among y (map (λ (r : Filled). r .target) (f ∷ es))
+    go (inl z) rec = inl (eqb-true y (f .target) z)
+    go (inr z) rec = inr (rec z)
+
+target-tells : (y : ℕ) (es : List Filled) → Among y (map (λ (r : Filled). r .target) es) → has y es ≡ true
+target-tells y [] p = absurd p
+target-tells y (f ∷ es) (inl e) = or-left (eqb y (f .target)) (has y es) (eq-eqb y (f .target) e)
+target-tells y (f ∷ es) (inr p) = or-right (eqb y (f .target)) (has y es) (target-tells y es p)
+
+pub tests : Tests
+tests =
+    record {
+      repeated-arc = λ earlier i j. (arc-there earlier i j, λ p. arc-joins earlier i j (p .0) (p .1));
+      no-room = λ net bs. (full-there (run net bs) (net .n), λ p. full-tells (run net bs) (net .n) (p .0) (p .1) (p .2));
+      not-started = λ ph. (unstarted-is ph, λ e. rw e);
+      repeated-target = λ y es. (target-there y es, target-tells y es);
+    }
