@@ -46,11 +46,12 @@ lateRows net bs i wide =
     -- "the file is longer than the room"
     ∷ roomRows wide (length (nodeFile one net bs i))
 
+-- "the run (10)": "no room in a sent list"
+abbrev pub tenRows : Net → List Step → List Row
+tenRows net bs = 10 when refused10 net bs ∷ []
+
 abbrev pub writeRows : Net → List Step → ℕ → ℕ → List Row
-writeRows net bs i wide =
-    askRows (net .n) i
-    -- "no room in a sent list"
-    ++ (10 when refused10 net bs ∷ lateRows net bs i wide)
+writeRows net bs i wide = askRows (net .n) i ++ (tenRows net bs ++ lateRows net bs i wide)
 
 abbrev pub writeRefusal : Checked → List ℕ → ℕ → ℕ → ℕ
 writeRefusal net bs i wide = net .refused else refused (writeRows (net .meant) (steps bs) i wide)
@@ -64,9 +65,7 @@ writeRoom net bs i room = keptIf (writeRefusal net bs i (length room)) room (beg
 
 -- The whole outcome of a run: all entries, row by row, in a room of `wide` numbers, and the counts.
 abbrev pub runRows : Net → List Step → ℕ → List Row
-runRows net bs wide =
-    10 when refused10 net bs
-    ∷ roomRows wide (2 * (net .n * net .n))
+runRows net bs wide = tenRows net bs ++ roomRows wide (2 * (net .n * net .n))
 
 abbrev pub runRefusal : Checked → List ℕ → ℕ → ℕ
 runRefusal net bs wide = net .refused else refused (runRows (net .meant) (steps bs) wide)
@@ -90,7 +89,7 @@ entriesAfter net bs = rowNumbers (entryAfter net bs) (nodesOf net) (nodesOf net)
 
 -- One entry: "Then 11, the run (10)"; 11 is for the node and for the target.
 abbrev pub entryRows : Net → List Step → ℕ → ℕ → List Row
-entryRows net bs i y = askRows (net .n) i ++ (askRows (net .n) y ++ (10 when refused10 net bs ∷ []))
+entryRows net bs i y = askRows (net .n) i ++ (askRows (net .n) y ++ tenRows net bs)
 
 abbrev pub entryRefusal : Checked → List ℕ → ℕ → ℕ → ℕ
 entryRefusal net bs i y = net .refused else refused (entryRows (net .meant) (steps bs) i y)
@@ -121,8 +120,11 @@ routeRoom net bs i y room = keptIf (routeRefusal net bs i y (length room)) room 
 abbrev pub netBytes : Net → List ℕ
 netBytes net = bytesOf (net .n) (net .lmax) (net .arcs)
 
+abbrev pub packRows : Net → ℕ → List Row
+packRows net wide = roomRows wide (size (length (net .arcs)))
+
 abbrev pub packRefusal : Checked → ℕ → ℕ
-packRefusal net wide = net .refused else refused (roomRows wide (size (length (net .meant .arcs))))
+packRefusal net wide = net .refused else refused (packRows (net .meant) wide)
 
 -- how many bytes were written
 abbrev pub packAnswer : Checked → List ℕ → ℕ

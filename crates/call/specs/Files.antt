@@ -1,14 +1,15 @@
 -- What the public calls that take a table file answer, and what they leave in a lent room; and what a file that is written leaves there.
 use mathlib.Core.Path.{_≡_}
-use mathlib.Core.List.{List}
-use Prim.Native.Nat.{ℕ}
+use mathlib.Core.List.{List, _++_}
+use Prim.Native.Nat.{ℕ, _*_}
 use lib.ListN.{length}
+use Rattle.bits.specs.Bits.{bitsOf}
 use Rattle.method.specs.Room.{begins}
 use Rattle.method.specs.Marks.{entryNumbers}
 use Rattle.refusal.specs.declared.Refusal.{Refusal}
-use Rattle.refusal.specs.Rows.{none, roomRows, first, answer}
+use Rattle.refusal.specs.Rows.{Row, none, roomRows, first, answer}
 use Rattle.table.specs.File.{one}
-use Rattle.table.specs.Reader.{Reading, refused, accepted, reading, entryIn, Read, refusal, says, entryRead}
+use Rattle.table.specs.Reader.{headerAt, fileRows, Reading, refused, accepted, reading, entryIn, Read, refusal, says, entryRead}
 use Rattle.table.specs.declared.Outcome.{Outcome}
 use Rattle.table.specs.declared.Outcome.the-variants.{Written, Refused}
 use Rattle.call.specs.Answers.{values, entryValues}
@@ -34,6 +35,10 @@ roomAfter what room = answer (first (roomRows (length room) (length what))) (λ 
 abbrev pub entriesOutcome : Reading → List ℕ → Outcome
 entriesOutcome (refused r) room = Refused r
 entriesOutcome (accepted h es mark) room = outcome (entryNumbers (entryIn h es mark) (h .n)) room
+
+-- so its rows: all entries are 2 × n numbers
+abbrev pub tableRows : List ℕ → ℕ → List Row
+tableRows s wide = fileRows one s ++ roomRows wide (2 * headerAt one (bitsOf s) .n)
 
 -- and what they leave in the room
 abbrev pub tableRoom : Reading → List ℕ → List ℕ

@@ -5,7 +5,8 @@ use Rattle.refusal.specs.Rows.{refused}
 use Rattle.refusal.proofs.Rows.{answer-by, by-more}
 use Rattle.network.specs.Bytes.{network, byteRows}
 use Rattle.house_text.specs.Lines.{refusedLine}
-use Rattle.house.specs.House.{networkBytes, stepBytes, houseRows, inputRefusal}
+use Rattle.call.specs.Calls.{tenRows}
+use Rattle.house.specs.House.{networkBytes, stepBytes, inputRefusal}
 use Rattle.house.specs.Laws.{HouseLaws}
 
 pub laws : HouseLaws
@@ -13,6 +14,6 @@ laws =
     record {
       exactly = λ input.
           let s = networkBytes input in
-          by-more (byteRows s) (houseRows (network s) (steps (stepBytes input))) (refused (byteRows s)) refl;
+          by-more (byteRows s) (tenRows (network s) (steps (stepBytes input))) (refused (byteRows s)) refl;
       number-only = λ input isOne. answer-by (inputRefusal input) (refusedLine (inputRefusal input)) _ isOne;
     }

@@ -23,10 +23,10 @@ use Rattle.house_text.specs.Lines.{houseText, refusedLine}
 use Rattle.house_text.specs.Handed.{entryBy, handedEntry}
 use Rattle.house_text.specs.Room.{Front}
 use Rattle.house_text.proofs.Laws.{laws as text-laws}
-use Rattle.call.specs.Calls.{nodesOf, entryAfter, runRows, runRefusal, countsAfter, entriesAfter}
+use Rattle.call.specs.Calls.{nodesOf, entryAfter, runRows, runRefusal, countsAfter, entriesAfter, tenRows}
 use Rattle.call.specs.Promises.{RunPromise}
 use Rattle.call.proofs.Found.{accepted, of-meant}
-use Rattle.house.specs.House.{houseRows, houseRefusal, textOf, textFor}
+use Rattle.house.specs.House.{houseRefusal, textOf, textFor}
 
 -- the same text
 pub same-front : (room after : List ℕ) (r : ℕ) (t u : List ℕ) → t ≡ u → Front room t after r → Front room u after r
@@ -57,7 +57,7 @@ module _ (net : Checked) (found : Found) (is : Finds net found) where
     no-thirteen = go (net .refused) refl
       where
         go : (N : ℕ) → net .refused ≡ N
-            → N else refused (runRows (net .meant) (steps bs) (length room)) ≡ N else refused (houseRows (net .meant) (steps bs))
+            → N else refused (runRows (net .meant) (steps bs) (length room)) ≡ N else refused (tenRows (net .meant) (steps bs))
         go zero none = rw (le-ltb (length room) (2 * (nodesOf net * nodesOf net)) (omega (arith, few none)))
         go (suc N) some = refl
 

@@ -1,13 +1,14 @@
 -- 01, "The bench program": what "House table" writes for an input.
 use Prim.Native.Nat.{ℕ}
-use mathlib.Core.List.{List, [], _∷_}
+use mathlib.Core.List.{List}
 use lib.ListN.{take, drop}
 use Rattle.method.specs.Network.{Net}
-use Rattle.method.specs.Steps.{Step, steps, run, counts, refused10}
+use Rattle.method.specs.Steps.{Step, steps, run, counts}
 use Rattle.method.specs.Entries.{entry, stoppedTo}
-use Rattle.refusal.specs.Rows.{Row, _when_, refused, answerBy, _else_}
+use Rattle.refusal.specs.Rows.{refused, answerBy, _else_}
 use Rattle.network.specs.Bytes.{count, size}
 use Rattle.network.specs.Checked.{Checked, fromBytes}
+use Rattle.call.specs.Calls.{tenRows}
 use Rattle.house_text.specs.Lines.{houseText, refusedLine}
 
 -- "as many as its arc count asks for": always 3 or more, so an input under 3 bytes is all network
@@ -22,12 +23,9 @@ networkBytes input = take (asked input) input
 abbrev pub stepBytes : List ℕ → List ℕ
 stepBytes input = drop (asked input) input
 
--- what is refused after the network: the run, with 10
-abbrev pub houseRows : Net → List Step → List Row
-houseRows net bs = 10 when refused10 net bs ∷ []
-
+-- what is refused: the network, then the run
 abbrev pub houseRefusal : Checked → List ℕ → ℕ
-houseRefusal net bs = net .refused else refused (houseRows (net .meant) (steps bs))
+houseRefusal net bs = net .refused else refused (tenRows (net .meant) (steps bs))
 
 -- "Input that ends inside the network is refusal 1, in its usual place"
 abbrev pub inputRefusal : List ℕ → ℕ
