@@ -36,8 +36,8 @@ extern "C" {
  * is undelivered, is counted as idle. Neither changes anything. All other steps are taken. A message delivered to a node before its start
  * is kept for it. A list of steps may have any length, and a longer list is a longer run: to continue a run, call again with the whole
  * list. A node that has stopped knows everything there is to know. As long as some node has not stopped, some step can be taken, and no
- * node sends more than (n - 1) * LMAX + n + 2 messages. So start every node, then deliver on every arc in turn until zaq_run counts n stopped
- * nodes.
+ * node sends more than (n - 1) * LMAX + n + 2 messages. So start every node, then deliver on every arc in turn until zaq_run counts n
+ * stopped nodes.
  *
  * An entry is what a node knows of a target: unknown, unreachable, or a distance with a first hop. As soon as it is not unknown it is right
  * and final, in every order of steps. Before it starts, a node knows nothing, not even itself. Entries become unreachable only once the
