@@ -8,7 +8,7 @@ use Rattle.method.specs.Steps.{steps}
 use Rattle.refusal.specs.Rows.{refused, roomRows, _else_}
 use Rattle.refusal.proofs.Rows.{clear, rows-else, else-both, else-assoc}
 use Rattle.network.specs.Checked.{Checked, OfMethod}
-use Rattle.network.proofs.Refused.{inside}
+use Rattle.refusal.proofs.Tests.{inside}
 use Rattle.call.specs.Calls.{nodesOf, entryRows, entryRefusal, nodesPassed, routeRefusal}
 
 -- the network is accepted, and node and target are in it

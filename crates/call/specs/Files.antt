@@ -36,14 +36,14 @@ abbrev pub entriesOutcome : Reading → List ℕ → Outcome
 entriesOutcome (refused r) room = Refused r
 entriesOutcome (accepted h es mark) room = outcome (entryNumbers (entryIn h es mark) (h .n)) room
 
--- so its rows: all entries are 2 × n numbers
-abbrev pub tableRows : List ℕ → ℕ → List Row
-tableRows s wide = fileRows one s ++ roomRows wide (2 * headerAt one (bitsOf s) .n)
-
 -- and what they leave in the room
 abbrev pub tableRoom : Reading → List ℕ → List ℕ
 tableRoom (refused r) room = room
 tableRoom (accepted h es mark) room = roomAfter (entryNumbers (entryIn h es mark) (h .n)) room
+
+-- the rows of the two: all entries of a file are 2 × n numbers
+abbrev pub tableRows : List ℕ → ℕ → List Row
+tableRows s wide = fileRows one s ++ roomRows wide (2 * headerAt one (bitsOf s) .n)
 
 -- an outcome as a refusal, and as one answer: how many numbers were written, or the refusal's number only
 abbrev pub outcomeRefusal : Outcome → Refusal

@@ -16,7 +16,7 @@ use Rattle.network.specs.Layout.{nodesAt, netOf}
 use Rattle.network.specs.Checked.{Checked}
 use Rattle.network.specs.Found.{Consistent, Finds}
 use Rattle.network.specs.declared.Found.{Found}
-use Rattle.network.proofs.Refused.{inside}
+use Rattle.refusal.proofs.Tests.{inside}
 use Rattle.run_cells.specs.Part.{Part, stateOf}
 use Rattle.run.specs.Ran.{Ran}
 use Rattle.run_entries.proofs.Reading.{ran-entry, no-mark}

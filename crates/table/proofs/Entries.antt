@@ -16,7 +16,7 @@ use Rattle.method.proofs.Table.{in-has, has-true, has-false, Found, find-ok}
 use Rattle.table.specs.declared.Header.{Header}
 use Rattle.refusal.specs.Rows.{_when_, first, answer}
 use Rattle.table.specs.Reader.{accepted, entryIn, refusal, says, entryFrom}
-use Rattle.table.proofs.Passed.{neither}
+use Rattle.refusal.proofs.Tests.{neither}
 
 -- a target without a record, and one with a record, of which the phase does not matter
 

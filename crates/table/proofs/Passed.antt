@@ -15,6 +15,7 @@ use Rattle.method.specs.Distinct.{Among}
 use Rattle.method.specs.Invariant.{In, targets, Has}
 use Rattle.refusal.specs.Rows.{Clear}
 use Rattle.refusal.proofs.Rows.{_next_, both-clear}
+use Rattle.refusal.proofs.Tests.{neither}
 use Rattle.method.proofs.Numbers.{few}
 use Rattle.method.proofs.Table.{Once, targets-length, has-false}
 use Rattle.table.specs.declared.Header.{Header}
@@ -35,11 +36,6 @@ all-passed h (e ∷ es) s first = (
     none : (r : List Filled) → length r ≡ 0 → r ≡ []
     none [] z = refl
     none (x ∷ r) z = absurd (omega arith)
-
--- neither of two tests says yes
-pub neither : (t u : Bool) → t || u ≡ false → (t ≡ false) × (u ≡ false)
-neither true u e = absurd (true≢false e)
-neither false u e = (refl, e)
 
 -- refusal 17's rows are clear exactly of a record that goes on
 

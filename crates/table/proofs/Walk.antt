@@ -12,16 +12,13 @@ use Rattle.method.specs.Rules.{Filled}
 use Rattle.refusal.specs.declared.Refusal.{Refusal}
 use Rattle.refusal.specs.Rows.{Row, Clear, first, refused, answerBy}
 use Rattle.refusal.proofs.Rows.{clear, number-clear, after-clear}
+use Rattle.refusal.proofs.Tests.{both}
 use Rattle.table.specs.File.{Form, headerSize, recordSize}
 use Rattle.table.specs.declared.Header.{Header}
 use Rattle.table.specs.Reader.{stands, passes, walk, taken, recordAt, recordRows, recordsRows, headerAt, headerRows, zeroBit, endOf}
 use Rattle.table.specs.Reader.{nextRows, bodyRows, fileRows, Reading, accepted, reading}
 use Rattle.table.specs.Passed.{Passed}
 use Rattle.table.proofs.Passed.{goes-on, passed-clear}
-
-pub both-true : (t u : Bool) → t && u ≡ true → (t ≡ true) × (u ≡ true)
-both-true true u e = (refl, e)
-both-true false u e = absurd (true≢false (sym e))
 
 module _ (f : Form) (h : Header) (t : ℕ) (seen : List Filled) (B : List ℕ) (p : ℕ) where
   -- no record stands, or it is refused
@@ -50,7 +47,7 @@ stands-short f B p g = rw (lt-leb (p + recordSize f) (length B) g) (and-false (e
 
 pub stands-fits : (f : Form) (B : List ℕ) (p : ℕ) → stands f B p ≡ true → p + recordSize f ≤ length B
 stands-fits f B p e = leb-true (p + recordSize f) (length B)
-    (both-true (eqb (field B p 1) 1) (leb (p + recordSize f) (length B)) e .1)
+    (both (eqb (field B p 1) 1) (leb (p + recordSize f) (length B)) e .1)
 
 -- what every record taken keeps, holds of all
 module _ (f : Form) (h : Header) (B : List ℕ) (P : List Filled → ℕ → Type 0)
@@ -71,8 +68,8 @@ module _ (f : Form) (h : Header) (B : List ℕ) (P : List Filled → ℕ → Typ
       go : (b : Bool) → passes f h seen B p ≡ b → (p + recordSize f ≤ length B → Clear rows → (q : ℕ) × P next q)
           → (q : ℕ) × P (cond b next seen) q
       go true e again =
-          let both = both-true (stands f B p) (eqb (refused rows) 0) e in
-          again (stands-fits f B p (both .0)) (clear rows (eqb-true (refused rows) 0 (both .1)))
+          let told = both (stands f B p) (eqb (refused rows) 0) e in
+          again (stands-fits f B p (told .0)) (clear rows (eqb-true (refused rows) 0 (told .1)))
       go false e again = (p, s)
 
   pub taken-keeps : P [] (headerSize f) → (q : ℕ) × P (taken f h B) q

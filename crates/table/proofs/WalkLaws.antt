@@ -10,13 +10,14 @@ use Rattle.bits.specs.Bits.{bitsOf}
 use Rattle.method.specs.Rules.{Filled}
 use Rattle.refusal.specs.Rows.{Row, Clear, refused}
 use Rattle.refusal.proofs.Rows.{number-clear, clear-both}
+use Rattle.refusal.proofs.Tests.{both}
 use Rattle.table.specs.File.{Form, headerSize, recordSize, start}
 use Rattle.table.specs.declared.Header.{Header}
 use Rattle.table.specs.Reader.{stands, passes, walk, taken, recordAt, recordRows, recordsRows, headerAt, headerRows, endOf, endRows}
 use Rattle.table.specs.Reader.{nextRows, bodyRows, fileRows}
 use Rattle.table.specs.Laws.{AsRead, WalkLaws}
 use Rattle.table.proofs.Sizes.{start-zero, start-suc}
-use Rattle.table.proofs.Walk.{both-true, stands-short}
+use Rattle.table.proofs.Walk.{stands-short}
 
 module _ (f : Form) (h : Header) (B : List ℕ) where
   -- records read so, and the record that is taken next, which stands after them
@@ -34,7 +35,7 @@ module _ (f : Form) (h : Header) (B : List ℕ) where
       go : (b : Bool) → passes f h seen B p ≡ b → (AsRead f B (recordAt f seen B p ∷ seen) → AsRead f B more)
           → AsRead f B (cond b more seen)
       go true e again =
-          let whole = both-true (stands f B p) _ e .0 in
+          let whole = both (stands f B p) _ e .0 in
           again (
             subst (λ (q : ℕ). stands f B q ≡ true) is whole,
             ap (λ (q : ℕ). recordAt f seen B q) is,

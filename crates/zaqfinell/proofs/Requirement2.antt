@@ -23,7 +23,7 @@ use Rattle.refusal.specs.Rows.{_when_, refused, _else_, outside}
 use Rattle.refusal.proofs.Rows.{else-both}
 use Rattle.network.specs.Bytes.{size, netBits, bytesOf}
 use Rattle.network.specs.Checked.{Checked, fromBytes, fromList, OfMethod}
-use Rattle.network.proofs.Refused.{inside}
+use Rattle.refusal.proofs.Tests.{inside}
 use Rattle.method.specs.Room.{begins}
 use Rattle.method.proofs.Numbers.{last-or-before}
 use Rattle.method.proofs.Room.{written, begins-read}

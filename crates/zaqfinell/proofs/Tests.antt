@@ -2,18 +2,20 @@
 use mathlib.Core.Path.{_≡_, refl, sym, subst}
 use mathlib.Core.Logic.{_⊎_, inl, inr, _↔_}
 use mathlib.Core.Bool.{Bool, true, false, _&&_, _||_, true≢false}
-use mathlib.Core.List.{List, [], _∷_, map}
+use mathlib.Core.List.{List, [], _∷_}
 use Prim.Native.Nat.{ℕ, zero, suc, _<_}
 use native.Mathlib.Omega.{arith}
 use lib.Dec.{ltb, eqb}
 use lib.ListN.{length}
 use borrow.Author.Tests.{eqb-true, eq-eqb, ltb-true, lt-ltb}
-use Rattle.method.specs.Distinct.{Among}
 use Rattle.method.specs.Network.{Arc, IsNode, IsArc}
 use Rattle.method.specs.Rules.{Filled, Phase, unstarted, started, stopped, has}
 use Rattle.method.specs.Steps.{State, sents, overfull, run}
+use Rattle.method.specs.Invariant.{Has}
 use Rattle.method.proofs.Numbers.{last-or-before}
+use Rattle.method.proofs.Table.{has-true, has-false}
 use Rattle.network.specs.Refusal.{joined}
+use Rattle.refusal.proofs.Tests.{both}
 use Rattle.call.specs.Calls.{isUnstarted}
 use Rattle.zaqfinell.specs.Tests.{Tests}
 
@@ -29,10 +31,6 @@ or-right : (t u : Bool) → u ≡ true → t || u ≡ true
 or-right true u e = refl
 or-right false u e = e
 
-pub and-both : (t u : Bool) → t && u ≡ true → (t ≡ true) × (u ≡ true)
-and-both true u e = (refl, e)
-and-both false u e = absurd (true≢false (sym e))
-
 -- an earlier arc
 arc-there : (ar : List Arc) (i j : ℕ) → joined ar i j ≡ true → (l : ℕ) × IsArc ar i j l
 unfolding joined
@@ -42,8 +40,8 @@ arc-there (a ∷ ar) i j e = go (or-cases (eqb (a .tail) i && eqb (a .head) j) (
     go : (eqb (a .tail) i && eqb (a .head) j ≡ true) ⊎ (joined ar i j ≡ true) → (joined ar i j ≡ true → (l : ℕ) × IsArc ar i j l)
         → (l : ℕ) × IsArc (a ∷ ar) i j l
     go (inl f) rec =
-        let both = and-both (eqb (a .tail) i) (eqb (a .head) j) f in
-        (a .len, inl (eqb-true (a .tail) i (both .0), eqb-true (a .head) j (both .1), refl))
+        let ends = both (eqb (a .tail) i) (eqb (a .head) j) f in
+        (a .len, inl (eqb-true (a .tail) i (ends .0), eqb-true (a .head) j (ends .1), refl))
     go (inr f) rec = let p = rec f in (p .0, inr (p .1))
 
 arc-joins : (ar : List Arc) (i j l : ℕ) → IsArc ar i j l → joined ar i j ≡ true
@@ -81,19 +79,12 @@ unstarted-is started e = absurd (true≢false (sym e))
 unstarted-is stopped e = absurd (true≢false (sym e))
 
 -- a target that stands already
-target-there : (y : ℕ) (es : List Filled) → has y es ≡ true → Among y (map (λ (r : Filled). r .target) es)
-target-there y [] e = absurd (true≢false (sym e))
-target-there y (f ∷ es) e = go (or-cases (eqb y (f .target)) (has y es) e) (target-there y es)
+target-tells : (y : ℕ) (es : List Filled) → Has y es → has y es ≡ true
+target-tells y es there = go (has y es) refl
   where
-    go : (eqb y (f .target) ≡ true) ⊎ (has y es ≡ true) → (has y es ≡ true → Among y (map (λ (r : Filled). r .target) es))
-        → Among y (map (λ (r : Filled). r .target) (f ∷ es))
-    go (inl z) rec = inl (eqb-true y (f .target) z)
-    go (inr z) rec = inr (rec z)
-
-target-tells : (y : ℕ) (es : List Filled) → Among y (map (λ (r : Filled). r .target) es) → has y es ≡ true
-target-tells y [] p = absurd p
-target-tells y (f ∷ es) (inl e) = or-left (eqb y (f .target)) (has y es) (eq-eqb y (f .target) e)
-target-tells y (f ∷ es) (inr p) = or-right (eqb y (f .target)) (has y es) (target-tells y es p)
+    go : (b : Bool) → has y es ≡ b → b ≡ true
+    go true e = refl
+    go false e = absurd (has-false y es e there)
 
 pub tests : Tests
 tests =
@@ -101,5 +92,5 @@ tests =
       repeated-arc = λ earlier i j. (arc-there earlier i j, λ p. arc-joins earlier i j (p .0) (p .1));
       no-room = λ net bs. (full-there (run net bs) (net .n), λ p. full-tells (run net bs) (net .n) (p .0) (p .1) (p .2));
       not-started = λ ph. (unstarted-is ph, λ e. rw e);
-      repeated-target = λ y es. (target-there y es, target-tells y es);
+      repeated-target = λ y es. (has-true y es, target-tells y es);
     }

@@ -2,13 +2,13 @@
 use mathlib.Core.Path.{_≡_}
 use mathlib.Core.Logic.{_↔_}
 use mathlib.Core.Bool.{true}
-use mathlib.Core.List.{List, map}
+use mathlib.Core.List.{List}
 use Prim.Native.Nat.{ℕ, _<_}
 use lib.ListN.{length}
-use Rattle.method.specs.Distinct.{Among}
 use Rattle.method.specs.Network.{Arc, Net, IsNode, IsArc}
 use Rattle.method.specs.Rules.{Filled, Phase, unstarted, has}
 use Rattle.method.specs.Steps.{Step, sents, run, refused10}
+use Rattle.method.specs.Invariant.{Has}
 use Rattle.network.specs.Refusal.{joined}
 use Rattle.call.specs.Calls.{isUnstarted}
 
@@ -21,4 +21,4 @@ pub record Tests : Type 0 where
   -- 12: "file wanted of a node not started"
   pub not-started : (ph : Phase) → (isUnstarted ph ≡ true) ↔ (ph ≡ unstarted)
   -- 17: "target [..] repeated"
-  pub repeated-target : (y : ℕ) (es : List Filled) → (has y es ≡ true) ↔ Among y (map (λ (r : Filled). r .target) es)
+  pub repeated-target : (y : ℕ) (es : List Filled) → (has y es ≡ true) ↔ Has y es

@@ -6,7 +6,7 @@ use borrow.Author.Needs.{needs}
 use Rattle.method.specs.Network.{IsNode}
 use Rattle.refusal.specs.Rows.{outside}
 use Rattle.network.specs.Layout.{netOf, Laid}
-use Rattle.network.proofs.Refused.{inside}
+use Rattle.refusal.proofs.Tests.{inside}
 use Rattle.call_file.proofs.Records.{some-entry}
 use Rattle.call_file.proofs.Answered.{has-started, file-fits, refused-answers, outside-answers, unstarted-answers, file-answers}
 use Rattle.call_file.proofs.write.Statement.{statement}
