@@ -8,7 +8,7 @@ use lib.Seq.{sets, sets-eq, set-getD, length-take-le}
 use lib.Pow.{shr-shr}
 use Rattle.bits.specs.Bits.{asBits, bitsOf, field, Bytes}
 use Rattle.bits.specs.Window.{windowAt}
-use Rattle.bits.proofs.AsBits.{length-asBits, asBits-split, asBits-mod}
+use Rattle.bits.proofs.AsBits.{asBits-split, asBits-mod}
 use Rattle.bits.proofs.Field.{field-front, field-after, field-of-number}
 use Rattle.bits.proofs.Bytes.{length-bits, bits-append}
 

@@ -1,6 +1,5 @@
 -- A network of which something was found: where it is refused, that is what a call is refused with; and where it is not, it is laid out.
 use mathlib.Core.Path.{_≡_, sym, subst, _∙_}
-use mathlib.Core.List.{List}
 use Prim.Native.Nat.{ℕ}
 use Rattle.method.specs.Network.{Net, Accepted}
 use Rattle.refusal.specs.Rows.{_else_}

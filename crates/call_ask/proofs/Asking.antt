@@ -4,7 +4,7 @@ use mathlib.Core.List.{List, [], _∷_, _++_}
 use Prim.Native.Nat.{ℕ, zero, suc, _<_}
 use native.Mathlib.Omega.{arith}
 use lib.ListN.{length, getD}
-use Rattle.method.specs.Network.{Net, IsNode}
+use Rattle.method.specs.Network.{Net}
 use Rattle.method.specs.Steps.{State, Counts, steps, refused10}
 use Rattle.method.specs.Entries.{Entry, unknown, unreachable, known, entryOf}
 use Rattle.method.specs.Marks.{distanceOf, hopOf}

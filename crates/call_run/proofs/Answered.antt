@@ -15,7 +15,7 @@ use Rattle.method.proofs.Room.{written, left-alone, sets-begins}
 use Rattle.method.proofs.EntryNumbers.{length-rows}
 use Rattle.refusal.specs.Rows.{refused}
 use Rattle.network.specs.Checked.{Checked}
-use Rattle.network.specs.Layout.{nodesAt, netOf}
+use Rattle.network.specs.Layout.{nodesAt}
 use Rattle.network.specs.Found.{Finds}
 use Rattle.network.specs.declared.Found.{Found}
 use Rattle.run_cells.specs.Part.{Part, stateOf}

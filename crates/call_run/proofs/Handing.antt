@@ -14,7 +14,7 @@ use Rattle.method.specs.Rules.{Filled, Phase, unstarted, started, stopped}
 use Rattle.method.specs.Entries.{Entry, said}
 use Rattle.method.specs.Marks.{distanceOf, hopOf}
 use Rattle.method.specs.Room.{begins}
-use Rattle.run_cells.specs.Part.{Part, tableSize, marksAt, hopsAt, partSize, cells, entryMarked, nodeOf, siteOf}
+use Rattle.run_cells.specs.Part.{Part, tableSize, marksAt, hopsAt, partSize, cells, entryMarked, nodeOf}
 use Rattle.run_cells.specs.Caches.{Marks}
 use Rattle.method.specs.Entries.{entryOf}
 use Rattle.method.specs.Marks.{entryNumbers, rowNumbers}

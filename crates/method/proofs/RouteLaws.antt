@@ -4,7 +4,7 @@ use mathlib.Core.List.{List, _∷_}
 use Prim.Native.Nat.{ℕ}
 use Rattle.method.specs.Network.{Net, IsNode, Accepted}
 use Rattle.method.specs.Steps.{Step, run}
-use Rattle.method.specs.Entries.{known, entryOf, entry}
+use Rattle.method.specs.Entries.{known, entry}
 use Rattle.method.specs.Marks.{hopOf}
 use Rattle.method.specs.Route.{route}
 use Rattle.method.specs.RouteLaws.{Arrives, RouteLaws}

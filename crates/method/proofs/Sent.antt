@@ -3,15 +3,15 @@ use mathlib.Core.Path.{_≡_, refl, sym, ap, subst, _∙_}
 use mathlib.Core.Logic.{_⊎_, inl, inr, _≢_}
 use mathlib.Core.Bool.{Bool, true, false, cond}
 use mathlib.Core.List.{List, [], _∷_, _++_}
-use Prim.Native.Nat.{ℕ, suc, _+_, _≤_, _<_, zero-le}
+use Prim.Native.Nat.{ℕ, _+_, _≤_, _<_, zero-le}
 use native.Mathlib.Omega.{arith}
 use lib.Dec.{eqb}
 use lib.ListN.{length}
 use borrow.Author.Tests.{eqb-true, eqb-false}
 use Rattle.method.specs.Network.{Arc}
-use Rattle.method.specs.Distance.{Chain, Distance}
+use Rattle.method.specs.Distance.{Chain}
 use Rattle.method.specs.Message.{Msg, label, len, end, Item, finite, infinite, lastLen, item, sendLen}
-use Rattle.method.specs.Distinct.{Among, Distinct}
+use Rattle.method.specs.Distinct.{Distinct}
 use Rattle.method.specs.Invariant.{labels, lengths, ends, Labelled, Complete, Good}
 
 pub parts : (s : List Msg) → length s ≡ length (labels s) + lengths s + ends s

@@ -17,7 +17,7 @@ use Rattle.method.proofs.Table.{Found, find-ok}
 use Rattle.table.specs.File.{one}
 use Rattle.table.specs.declared.Header.{Header}
 use Rattle.table.specs.Laws.{AtMost225}
-use Rattle.table.specs.Reader.{headerAt, headerRows, taken, bodyRows, fileRows, Reading, refused, accepted, reading, phaseOf, entryIn}
+use Rattle.table.specs.Reader.{headerAt, headerRows, taken, bodyRows, fileRows, Reading, refused, accepted, reading, phaseOf}
 use Rattle.table.specs.Reader.{Read, refusal, says, entryFrom, entryRead}
 use Rattle.refusal.specs.Rows.{_when_, first, answer, Clear}
 use Rattle.refusal.proofs.Rows.{clear-both}

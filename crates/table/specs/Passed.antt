@@ -1,5 +1,5 @@
 -- Records that refusal 17 lets pass, one after the other: the method's sound records whose first difference is not 0.
-use Prim.Native.Nat.{ℕ, _≤_}
+use Prim.Native.Nat.{_≤_}
 use mathlib.Core.Path.{_≡_}
 use mathlib.Core.List.{List, [], _∷_}
 use lib.ListN.{length}

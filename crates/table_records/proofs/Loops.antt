@@ -1,21 +1,20 @@
 -- What a loop over the cursor uses: its invariant holds at the beginning and from record to record, its numbers stay small, each record
 -- brings it nearer to its end, and there the records taken are those that it has met.
 use mathlib.Core.Path.{_≡_, sym, subst, _∙_, ap}
-use mathlib.Core.Bool.{true, false}
+use mathlib.Core.Bool.{true}
 use mathlib.Core.List.{List, [], _∷_}
-use Prim.Native.Nat.{ℕ, _+_, _-_, _*_, _≤_, _<_}
+use Prim.Native.Nat.{ℕ, _-_, _<_}
 use native.Mathlib.Omega.{arith}
 use lib.ListN.{length}
 use Rattle.bits.specs.Bits.{bitsOf}
 use Rattle.method.specs.Rules.{Filled}
-use Rattle.refusal.specs.declared.Refusal.{Refusal}
 use Rattle.refusal.specs.Rows.{refusal, first}
 use Rattle.table.specs.File.{Form, one, start}
 use Rattle.table.specs.declared.Header.{Header}
 use Rattle.table.specs.declared.Ending.the-variants.{Faulty}
-use Rattle.table.specs.Reader.{stands, taken, zeroBit, endOf, bodyRows, nextRows}
-use Rattle.table_records.specs.Parts.{HasHeader, endingBy, endingAt, ending}
-use Rattle.table_records.specs.Walk.{beginning, At, Ends, AdvancesTo, Advances, Places, Narrow}
+use Rattle.table.specs.Reader.{stands, taken, endOf, bodyRows}
+use Rattle.table_records.specs.Parts.{HasHeader, endingAt, ending}
+use Rattle.table_records.specs.Walk.{beginning, At, AdvancesTo, Advances, Places, Narrow}
 use Rattle.table_records.specs.declared.Cursor.{Cursor}
 use Rattle.table_records.specs.declared.Met.{Met}
 use Rattle.table_records.specs.declared.Met.the-variants.{Record, Wrong, Nothing}

@@ -10,8 +10,8 @@ use Rattle.bits.specs.Bits.{Bytes}
 use Rattle.bits.proofs.Below.{below-append, below-replicate}
 use Rattle.method.specs.If.{if_then_else_}
 use Rattle.method.specs.Network.{IsNode, Accepted}
-use Rattle.method.specs.Rules.{Phase, unstarted, started, stopped, Node}
-use Rattle.method.specs.Steps.{State, Step, byteStep, steps, Kind, taken, step, Counts, counted, counts}
+use Rattle.method.specs.Rules.{Phase, unstarted, started, stopped}
+use Rattle.method.specs.Steps.{State, Step, byteStep, steps, Kind, taken, Counts, counted, counts}
 use Rattle.method.specs.Entries.{nodes, hasStopped, isStopped, stoppedTo}
 use Rattle.method.proofs.Far.{farthest}
 use Rattle.method.proofs.Ends.{AllStopped, ends as list-ends, all-or-one as stopped-or-one}

@@ -1,5 +1,4 @@
 -- `entry`: read from what the run has left.
-use mathlib.Core.Path.{_≡_}
 use native.Mathlib.Omega.{arith}
 use borrow.Author.Needs.{needs}
 use Rattle.run_cells.specs.Part.{cells}

@@ -1,5 +1,4 @@
 -- `route`: the way is counted, and laid where the room has place for it.
-use mathlib.Core.Path.{_≡_}
 use native.Mathlib.Omega.{arith}
 use borrow.Author.Needs.{needs}
 use Rattle.run_cells.specs.Part.{cells}

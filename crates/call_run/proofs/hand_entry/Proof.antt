@@ -1,9 +1,8 @@
 -- `hand_entry`: two stores, one after the other.
 use native.Mathlib.Numerals.{add-one}
 use lib.ListN.{set}
-use mathlib.Core.Path.{_≡_, ap}
-use Prim.Native.Nat.{ℕ, suc, _+_}
-use native.Mathlib.Omega.{arith}
+use mathlib.Core.Path.{ap}
+use Prim.Native.Nat.{ℕ}
 use borrow.Author.Needs.{needs}
 use Rattle.call_run.proofs.hand_entry.Statement.{statement}
 use Rattle.call_run.proofs.hand_entry.Tie as tie

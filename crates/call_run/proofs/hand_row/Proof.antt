@@ -6,7 +6,7 @@ use Rattle.method.specs.Entries.{entryOf}
 use lib.Seq.{sets}
 use lib.ListN.{length}
 use mathlib.Core.Path.{_≡_, refl}
-use Prim.Native.Nat.{_+_, _-_, _*_, _≤_}
+use Prim.Native.Nat.{_+_, _-_, _≤_}
 use borrow.Author.Needs.{needs}
 use native.Mathlib.Omega.{arith}
 use Rattle.call_run.proofs.hand_row.Statement.{statement}

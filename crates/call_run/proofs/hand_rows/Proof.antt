@@ -1,5 +1,5 @@
 -- `hand_rows`: one node's row more at each turn.
-use Prim.Native.Nat.{_+_, _-_, _*_, _≤_}
+use Prim.Native.Nat.{_+_, _-_, _≤_}
 use mathlib.Core.Path.{_≡_, refl}
 use lib.ListN.{length}
 use lib.Seq.{sets}

@@ -1,5 +1,4 @@
 -- `run`: a refused network is not run, nor is one whose entries have no room; what the run leaves is handed over.
-use mathlib.Core.Path.{_≡_, refl}
 use native.Mathlib.Omega.{arith}
 use borrow.Author.Needs.{needs}
 use Rattle.network.specs.Layout.{Laid}

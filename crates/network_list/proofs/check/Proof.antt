@@ -1,6 +1,6 @@
 -- `check`: one of the walks of a slice of structs (crate `walk`); what holds after i records is `After`.
 use mathlib.Core.Path.{_≡_, refl}
-use Prim.Native.Nat.{ℕ, _%_, _≤_, _<_}
+use Prim.Native.Nat.{_%_, _≤_, _<_}
 use native.Mathlib.Omega.{arith}
 use lib.ListN.{length}
 use Rattle.walk.proofs.Form.{Form, Behind as Held}

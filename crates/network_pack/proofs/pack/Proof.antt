@@ -1,7 +1,6 @@
 -- `pack`: the room is left as it was where the network is refused or the room is short.
 use mathlib.Core.Path.{refl, sym, ap, _∙_}
 use native.Mathlib.Omega.{arith}
-use lib.ListN.{length}
 use borrow.Author.Needs.{needs}
 use Rattle.network.specs.Bytes.{size}
 use Rattle.network.specs.Layout.{Laid}

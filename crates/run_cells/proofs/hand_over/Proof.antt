@@ -1,5 +1,4 @@
 -- `hand_over`: a load and a store at the site's place.
-use mathlib.Core.Path.{sym}
 use Prim.Native.Nat.{_+_, _/_, _%_}
 use Rattle.run_cells.specs.Part.{deliveredAt}
 use Rattle.run_cells.proofs.Stored.{next-cell, next-store, count-law}

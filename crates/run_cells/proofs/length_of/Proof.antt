@@ -1,6 +1,5 @@
 -- `length_of`: a length of the network's layout.
-use mathlib.Core.Path.{_≡_, sym, ap, _∙_}
-use Prim.Native.Nat.{ℕ}
+use mathlib.Core.Path.{sym, ap, _∙_}
 use Rattle.network.specs.Layout.{lenAt}
 use Rattle.network.proofs.WithArc.{cell, len-is, len-none}
 use native.Mathlib.Omega.{arith}

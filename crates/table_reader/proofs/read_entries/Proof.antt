@@ -9,7 +9,6 @@ use Rattle.call.specs.Files.{entriesOutcome, tableRoom}
 use Rattle.table.specs.declared.Outcome.the-variants.{Refused}
 use Rattle.table_records.proofs.SoundHeader.{fault-refuses}
 use Rattle.table_reader.proofs.AllRead.{all-read, all-refused}
-use native.Mathlib.Omega.{arith}
 use borrow.Author.Needs.{needs}
 use Rattle.table_reader.proofs.read_entries.Statement.{statement}
 use Rattle.table_reader.proofs.read_entries.Tie as tie

@@ -6,7 +6,6 @@ use Rattle.table_reader.specs.Code.{answerOf}
 use Rattle.table.specs.declared.Ending.the-variants.{Unfinished, Marked, Faulty}
 use Rattle.table_records.proofs.SoundHeader.{fault-refuses}
 use Rattle.table_reader.proofs.Answering.{scan-answers}
-use native.Mathlib.Omega.{arith}
 use borrow.Author.Needs.{needs}
 use Rattle.table_reader.proofs.read_entry.Statement.{statement}
 use Rattle.table_reader.proofs.read_entry.Tie as tie

@@ -1,6 +1,5 @@
 -- `is_wrong_difference`: each test, in its order.
-use borrow.Author.Tests.{lt-ltb, le-ltb, eq-eqb, ne-eqb}
-use borrow.Author.Needs.{needs}
+use borrow.Author.Tests.{lt-ltb, le-ltb}
 use native.Mathlib.Omega.{arith}
 use Rattle.table_records.proofs.is_wrong_difference.Statement.{statement}
 use Rattle.table_records.proofs.is_wrong_difference.Tie as tie

@@ -1,6 +1,5 @@
 -- `is_wrong_hop`: either test.
-use borrow.Author.Tests.{lt-ltb, le-ltb, eq-eqb, ne-eqb}
-use borrow.Author.Needs.{needs}
+use borrow.Author.Tests.{lt-ltb, le-ltb}
 use native.Mathlib.Omega.{arith}
 use Rattle.table_records.proofs.is_wrong_hop.Statement.{statement}
 use Rattle.table_records.proofs.is_wrong_hop.Tie as tie

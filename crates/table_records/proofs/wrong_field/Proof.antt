@@ -1,7 +1,6 @@
 -- `wrong_field`: the rows of refusal 17, in their order.
 use mathlib.Core.Path.{sym, _∙_}
 use Rattle.table.specs.Reader.{fieldRows}
-use native.Mathlib.Omega.{arith}
 use borrow.Author.Needs.{needs}
 use Rattle.table_records.proofs.wrong_field.Statement.{statement}
 use Rattle.table_records.proofs.wrong_field.Tie as tie
