@@ -74,8 +74,8 @@ pub fn check(n: u8, lmax: u8, arcs: &[Arc]) -> Found
     let mut f = before_arcs(n, lmax, arcs.len());
     let mut laid = begin(n, lmax, arcs.len());
     let mut k: usize = 0;
-    while k < arcs.len() {
-        if f != 0 {
+    while f == 0 {
+        if arcs.len() <= k {
             break;
         }
         let a = arcs[k];

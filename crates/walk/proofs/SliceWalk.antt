@@ -12,11 +12,9 @@ use mir.Syntax.{named, imm, w8, w32, tyInt, tyRef, Name, Local, local, valueLoca
 use mir.Val.{Val, vint, hasTy, WT}
 use base.Logic.{SProp, ent, sep, ex, emp, snd∗, exE, id⊢}
 use base.Fml.{Lft, Share, Fml, ftrue, fsep, flft}
-use prog.Memory.{Memory}
-use prog.Routine.{Routine}
 use prog.Wp.{Heap, Env, Calls, Loops, WpFn, Tables}
 use ghost.Atoms.{Atoms, sem}
-use contract.Monad.{Fun, fact, factI}
+use contract.Monad.{fact, factI}
 use types.Kit.{Given, Item, ‵, raw, _⊛_, some, later, Post, atRet, prop, runs, lands, allocs, params′, updating, now as at-once, show, _$_}
 use types.Kit.{_∵_, !, qed, move, drop, use0, use1, use2, split, join, pick, fsplit, fjoin, frame, await, done}
 use types.Run.{enter}
@@ -34,7 +32,6 @@ use denote.Triple.Call.{calls-at, calls-from}
 use denote.Triple.Clauses.{ensured, lasts}
 use denote.Triple.Spec.{tripleOf}
 use denote.Triple.Clauses.{closing}
-use denote.RattleType.{RattleType}
 use Rattle.walk.proofs.Form.{Shape}
 use Rattle.walk.proofs.Form as F
 use Rattle.walk.proofs.Straight.{Blocks, Typed, copied, envAt, cells, AllHolding, Sq, past, begins, reads, ends}
