@@ -16,7 +16,7 @@ use table::Answer;
 use table::Outcome;
 
 // A record for each other node of a house of sixteen.
-const MOST: usize = 15;
+const MOST_RECORDS: usize = 15;
 
 // How many numbers were written, or the refusal's number, as one answer.
 fn packed(o: Outcome) -> u32
@@ -40,9 +40,9 @@ fn put_file(laid: &[u8; LAYOUT], s: &[u8], i: usize, room: &mut [u8]) -> Outcome
     let records = get(s, i, ENTRIES) - 1;
     let stopped = run_entries::has_stopped(s, i);
     let first = (i - 1) * PART + 1;
-    let targets = &s[first + TARGETS..first + TARGETS + MOST];
-    let distances = &s[first + DISTANCES..first + DISTANCES + MOST];
-    let hops = &s[first + HOPS..first + HOPS + MOST];
+    let targets = &s[first + TARGETS..first + TARGETS + MOST_RECORDS];
+    let distances = &s[first + DISTANCES..first + DISTANCES + MOST_RECORDS];
+    let hops = &s[first + HOPS..first + HOPS + MOST_RECORDS];
     table_writer::write_file(
         i as u32,
         laid[network::NODES] as u32,

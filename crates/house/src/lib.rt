@@ -22,7 +22,7 @@ fn network_end(input: &[u8]) -> usize
 }
 
 // As many numbers as the entries of 16 nodes are, so that no run is refused with 13.
-const ENTRIES: usize = 512;
+const ENTRY_NUMBERS: usize = 512;
 
 // Writes an input's text at the beginning of the room and gives its length. Bytes of the room beyond the text stay.
 pub fn house_table(input: &[u8], room: &mut [u8; 8192]) -> usize
@@ -32,7 +32,7 @@ pub fn house_table(input: &[u8], room: &mut [u8; 8192]) -> usize
     let found = network::check(&input[..end]);
     let n = found.laid[network::NODES] as usize;
     let mut counts = [0u64; 4];
-    let mut entries = [0u16; ENTRIES];
+    let mut entries = [0u16; ENTRY_NUMBERS];
     let refusal = call_run::run(found, &input[end..], &mut counts, &mut entries);
     if refusal != 0 {
         return house_text::refused(room, refusal as u64);

@@ -10,7 +10,7 @@ use Rattle.bits.proofs.Field.{field-at-whole}
 use Rattle.method.specs.Network.{IsNode}
 use Rattle.method.specs.Rules.{Filled}
 use Rattle.method.specs.Entries.{lastDistance}
-use Rattle.table.specs.File.{Form, headerBits, recordBits, bodyBits, headerSize, recordSize, start}
+use Rattle.table.specs.File.{Form, headerBits, recordBits, bodyBits, headerSize, recordSize, startOf}
 use Rattle.table.specs.declared.Header.{Header}
 use Rattle.table.specs.Reader.{walk, recordAt, recordRows, headerAt}
 use Rattle.refusal.specs.Rows.{Clear}
@@ -60,7 +60,7 @@ module _ (f : Form) (h : Header) (fits : Holds f (h .n) (h .lmax)) where
 
   -- all records are
   pub walk-all : (es : List Filled) → Passed h es → (t : ℕ) (X : List ℕ)
-      → walk f h (length es + t) [] (bodyBits f h es ++ X) (headerSize f) ≡ walk f h t es (bodyBits f h es ++ X) (start f (length es))
+      → walk f h (length es + t) [] (bodyBits f h es ++ X) (headerSize f) ≡ walk f h t es (bodyBits f h es ++ X) (startOf f (length es))
   unfolding bodyBits
   walk-all [] p t X =
       let z : 0 + t ≡ t = omega arith in
@@ -68,7 +68,7 @@ module _ (f : Form) (h : Header) (fits : Holds f (h .n) (h .lmax)) where
   walk-all (e ∷ es) ps t X =
       let A : List ℕ = bodyBits f h es in
       let E : List ℕ = recordBits f (lastDistance es) e in
-      let p : ℕ = start f (length es) in
+      let p : ℕ = startOf f (length es) in
       let at : length A ≡ p = length-body f h es in
       let c : length (A ++ (E ++ X)) ≡ p + (recordSize f + length X) = simp (length-append, at, length-record) in
       let b = record-back es e (ps .0) A X p at in

@@ -6,7 +6,7 @@ use Rattle.bits.specs.Bits.{asBits, bitsOf, number, field}
 use Rattle.refusal.specs.declared.Refusal.{Refusal}
 use Rattle.refusal.specs.Rows.{refusal, none, first}
 use Rattle.table.specs.File.{one}
-use Rattle.table.specs.Reader.{headerAt, recordAt, headerRows, fieldRows, recordsRows, firstOne, endRows, walk, taken, bodyRows}
+use Rattle.table.specs.Reader.{headerAt, recordAt, headerRows, fieldRows, recordsRows, firstOne, endRows, walk, recordsIn, bodyRows}
 use Rattle.table.specs.Reader.{fileRows, readRows}
 
 abbrev read : List ℕ → Refusal
@@ -46,5 +46,5 @@ pub places : map read
     ∷ refusal 18 48
     ∷ refusal 11 0
     ∷ []
-unfolding fileRows headerRows fieldRows recordsRows firstOne endRows walk taken bodyRows headerAt recordAt field number bitsOf asBits
+unfolding fileRows headerRows fieldRows recordsRows firstOne endRows walk recordsIn bodyRows headerAt recordAt field number bitsOf asBits
 places = refl

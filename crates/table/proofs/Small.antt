@@ -17,7 +17,7 @@ use Rattle.method.proofs.Table.{Found, find-ok}
 use Rattle.table.specs.File.{one}
 use Rattle.table.specs.declared.Header.{Header}
 use Rattle.table.specs.Laws.{AtMost225}
-use Rattle.table.specs.Reader.{headerAt, headerRows, taken, bodyRows, fileRows, Reading, refused, accepted, reading, phaseOf}
+use Rattle.table.specs.Reader.{headerAt, headerRows, recordsIn, bodyRows, fileRows, Reading, refused, accepted, reading, phaseOf}
 use Rattle.table.specs.Reader.{Read, refusal, says, entryFrom, entryRead}
 use Rattle.refusal.specs.Rows.{_when_, first, answer, Clear}
 use Rattle.refusal.proofs.Rows.{clear-both}
@@ -36,7 +36,7 @@ abbrev pub Accepted : Reading → Type 0
 Accepted (refused r) = Unit {0}
 Accepted (accepted h es mark) = Sound h es
 
-sound : (s : List ℕ) (h : Header) → h ≡ headerAt one (bitsOf s) → Clear (headerRows one h s) → Sound h (taken one h (bitsOf s))
+sound : (s : List ℕ) (h : Header) → h ≡ headerAt one (bitsOf s) → Clear (headerRows one h s) → Sound h (recordsIn one h (bitsOf s))
 unfolding headerAt
 sound s h e c =
     record {

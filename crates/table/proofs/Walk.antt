@@ -15,7 +15,8 @@ use Rattle.refusal.proofs.Rows.{clear, number-clear, after-clear}
 use Rattle.refusal.proofs.Tests.{both}
 use Rattle.table.specs.File.{Form, headerSize, recordSize}
 use Rattle.table.specs.declared.Header.{Header}
-use Rattle.table.specs.Reader.{stands, passes, walk, taken, recordAt, recordRows, recordsRows, headerAt, headerRows, zeroBit, endOf}
+use Rattle.table.specs.Reader.{stands, passes, walk, recordsIn, recordAt, recordRows}
+use Rattle.table.specs.Reader.{recordsRows, headerAt, headerRows, zeroBit, endOf}
 use Rattle.table.specs.Reader.{nextRows, bodyRows, fileRows, Reading, accepted, reading}
 use Rattle.table.specs.Passed.{Passed}
 use Rattle.table.proofs.Passed.{goes-on, passed-clear}
@@ -72,8 +73,8 @@ module _ (f : Form) (h : Header) (B : List ℕ) (P : List Filled → ℕ → Typ
           again (stands-fits f B p (told .0)) (clear rows (eqb-true (refused rows) 0 (told .1)))
       go false e again = (p, s)
 
-  pub taken-keeps : P [] (headerSize f) → (q : ℕ) × P (taken f h B) q
-  unfolding taken
+  pub taken-keeps : P [] (headerSize f) → (q : ℕ) × P (recordsIn f h B) q
+  unfolding recordsIn
   taken-keeps s = walk-keeps (length B) [] (headerSize f) s
 
 -- a record read from bits has nodes from 1 on, and its distance does not fall
@@ -83,14 +84,14 @@ pub record-passes : (f : Form) (h : Header) (seen : List Filled) (B : List ℕ) 
 unfolding recordAt
 record-passes f h seen B p s w = (goes-on f h seen (recordAt f seen B p) (omega arith) (omega arith) (omega arith) w, s)
 
-pub taken-passed : (f : Form) (h : Header) (B : List ℕ) → Passed h (taken f h B)
+pub taken-passed : (f : Form) (h : Header) (B : List ℕ) → Passed h (recordsIn f h B)
 taken-passed f h B = taken-keeps f h B (λ seen p. Passed h seen) (λ seen p s l c. record-passes f h seen B p s c) tt .1
 
 -- so what stands after them tells
-pub body-first : (f : Form) (h : Header) (B : List ℕ) → first (bodyRows f h B) ≡ first (nextRows f h (taken f h B) B (endOf f h B))
+pub body-first : (f : Form) (h : Header) (B : List ℕ) → first (bodyRows f h B) ≡ first (nextRows f h (recordsIn f h B) B (endOf f h B))
 unfolding bodyRows
-body-first f h B = after-clear (recordsRows f h (taken f h B)) (nextRows f h (taken f h B) B (endOf f h B))
-    (passed-clear f h (taken f h B) (taken-passed f h B))
+body-first f h B = after-clear (recordsRows f h (recordsIn f h B)) (nextRows f h (recordsIn f h B) B (endOf f h B))
+    (passed-clear f h (recordsIn f h B) (taken-passed f h B))
 
 -- a sound header has two bytes at least, and an own number of the house
 pub header-sound : (f : Form) (h : Header) (s : List ℕ) → Clear (headerRows f h s) → (2 ≤ length s) × (h .own ≤ h .n)
@@ -99,7 +100,7 @@ header-sound f h s c = (ltb-false (length s) 2 (c .0), ltb-false (h .n) (h .own)
 
 -- a reading is a refusal, or, where no row holds, the records taken, with the end mark or without it
 pub by-reading : (f : Form) (s : List ℕ) (P : Reading → Type 0) → ((r : Refusal) → P (Reading.refused r))
-    → ((m : Bool) → Clear (fileRows f s) → P (accepted (headerAt f (bitsOf s)) (taken f (headerAt f (bitsOf s)) (bitsOf s)) m))
+    → ((m : Bool) → Clear (fileRows f s) → P (accepted (headerAt f (bitsOf s)) (recordsIn f (headerAt f (bitsOf s)) (bitsOf s)) m))
     → P (reading f s)
 unfolding reading
 by-reading f s P fails holds = go (refused (fileRows f s)) refl
@@ -111,6 +112,6 @@ by-reading f s P fails holds = go (refused (fileRows f s)) refl
     mark = zeroBit (bitsOf s) (endOf f h (bitsOf s))
 
     go : (N : ℕ) → refused (fileRows f s) ≡ N
-        → P (answerBy N (Reading.refused (first (fileRows f s))) (accepted h (taken f h (bitsOf s)) mark))
+        → P (answerBy N (Reading.refused (first (fileRows f s))) (accepted h (recordsIn f h (bitsOf s)) mark))
     go zero e = holds mark (clear (fileRows f s) e)
     go (suc N) e = fails (first (fileRows f s))

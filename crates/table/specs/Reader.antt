@@ -11,7 +11,7 @@ use Rattle.method.specs.Entries.{Entry, known, find, said, lastDistance}
 use Rattle.refusal.specs.declared.Refusal.{Refusal}
 use Rattle.refusal.specs.Rows
 use Rattle.refusal.specs.Rows.{Row, _when_, _at_when_, first, answer, askRows}
-use Rattle.table.specs.File.{Form, headerSize, recordSize, start}
+use Rattle.table.specs.File.{Form, headerSize, recordSize, startOf}
 use Rattle.table.specs.declared.Header.{Header}
 
 -- the header's fields
@@ -59,7 +59,7 @@ fieldRows f h p repeated first target hop difference =
 -- of a record after the records `seen`: its difference is its distance less that of the record before
 abbrev pub recordRows : Form → Header → List Filled → Filled → List Row
 recordRows f h seen e =
-    fieldRows f h (start f (length seen)) (has (e .target) seen) (eqb (length seen) 0)
+    fieldRows f h (startOf f (length seen)) (has (e .target) seen) (eqb (length seen) 0)
     (e .target) (e .hop) (e .distance - lastDistance seen)
 
 -- "records in order 17"
@@ -99,12 +99,12 @@ walk f h zero seen B p = seen
 walk f h (suc turns) seen B p = if passes f h seen B p then walk f h turns (recordAt f seen B p ∷ seen) B (p + recordSize f) else seen
 
 -- the records after the header, newest first, before the first one that is cut or refused
-unfoldable pub taken : Form → Header → List ℕ → List Filled
-taken f h B = walk f h (length B) [] B (headerSize f)
+unfoldable pub recordsIn : Form → Header → List ℕ → List Filled
+recordsIn f h B = walk f h (length B) [] B (headerSize f)
 
 -- where they end
 abbrev pub endOf : Form → Header → List ℕ → ℕ
-endOf f h B = start f (length (taken f h B))
+endOf f h B = startOf f (length (recordsIn f h B))
 
 -- what stands at bit p after the records `seen`: one more record, or the end
 abbrev pub nextRows : Form → Header → List Filled → List ℕ → ℕ → List Row
@@ -112,7 +112,7 @@ nextRows f h seen B p = if stands f B p then recordRows f h seen (recordAt f see
 
 -- "records in order 17, then 18"
 unfoldable pub bodyRows : Form → Header → List ℕ → List Row
-bodyRows f h B = recordsRows f h (taken f h B) ++ nextRows f h (taken f h B) B (endOf f h B)
+bodyRows f h B = recordsRows f h (recordsIn f h B) ++ nextRows f h (recordsIn f h B) B (endOf f h B)
 
 -- "File: 14, 15, 16, records in order 17, then 18"
 unfoldable pub fileRows : Form → List ℕ → List Row
@@ -125,7 +125,7 @@ pub data Reading : Type 0 where
 
 -- what the reader makes of the bytes s
 unfoldable pub reading : Form → List ℕ → Reading
-reading f s = answer (first (fileRows f s)) refused (accepted h (taken f h B) (zeroBit B (endOf f h B)))
+reading f s = answer (first (fileRows f s)) refused (accepted h (recordsIn f h B) (zeroBit B (endOf f h B)))
   where
     B : List ℕ
     B = bitsOf s

@@ -11,7 +11,7 @@ use Rattle.method.specs.Rules.{Filled}
 use Rattle.method.specs.Marks.{distanceOf}
 use Rattle.refusal.specs.declared.Refusal.{Refusal}
 use Rattle.table.specs.File.{one}
-use Rattle.table.specs.Reader.{taken, phaseOf, refused, accepted, reading}
+use Rattle.table.specs.Reader.{recordsIn, phaseOf, refused, accepted, reading}
 use Rattle.call.specs.Files.{entriesOutcome, tableRoom}
 use Rattle.table.specs.declared.Ending.{Ending}
 use Rattle.table.specs.declared.Ending.the-variants.{Unfinished, Marked, Faulty}
@@ -25,7 +25,7 @@ use Rattle.table_reader.proofs.Listed.{all-outcome, all-room}
 
 module _ (s : List ℕ) (h : Header) (d : HasHeader s h) (e : Ending) (q : e ≡ ending one h (bitsOf s)) where
   abbrev es : List Filled
-  es = taken one h (bitsOf s)
+  es = recordsIn one h (bitsOf s)
 
   concludes : reading one s ≡ concluded h es e
   concludes = reading-is s h d ∙ ap (concluded h es) (sym q)

@@ -13,7 +13,7 @@ use Rattle.method.specs.Entries.{known, find, said}
 use Rattle.method.specs.Marks.{distanceOf, noHop}
 use Rattle.method.proofs.Table.{Found, find-ok}
 use Rattle.table.specs.File.{one}
-use Rattle.table.specs.Reader.{taken, phaseOf, refusal, says, entryFrom, entryRead}
+use Rattle.table.specs.Reader.{recordsIn, phaseOf, refusal, says, entryFrom, entryRead}
 use Rattle.refusal.specs.Rows.{_when_, first, answer}
 use Rattle.table_records.specs.Parts.{HasHeader, ending, concluded}
 use Rattle.table_reader.specs.Code.{answerOf, recordDistance, recordHop, toldBy, walked, answered}
@@ -60,4 +60,4 @@ unfolding walked
 scan-answers t s h d w e ew ee r er =
     er
     ∙ rw (← ee, ew, reading-is s h d)
-    (answered-is t h (taken one h (bitsOf s)) (taken-passed one h (bitsOf s)) (ending one h (bitsOf s)))
+    (answered-is t h (recordsIn one h (bitsOf s)) (taken-passed one h (bitsOf s)) (ending one h (bitsOf s)))

@@ -9,7 +9,7 @@ use Rattle.method.specs.Rules.{Filled}
 use Rattle.method.specs.Entries.{find}
 use Rattle.table.specs.File.{one}
 use Rattle.table.specs.declared.Header.{Header}
-use Rattle.table.specs.Reader.{taken}
+use Rattle.table.specs.Reader.{recordsIn}
 use Rattle.table_records.specs.Parts.{ending}
 use Rattle.table.specs.declared.Ending.{Ending}
 use Rattle.table_reader.specs.Code.{recordDistance, recordHop, toldBy, walked}
@@ -36,6 +36,6 @@ found-next {t} {d} {o} {es} f e d₂ o₂ ed eo =
 
 -- at the end it is what the records taken tell
 pub tells : {t d o : ℕ} {es : List Filled} → Found t es d o → (h : Header) (B : List ℕ) (e : Ending)
-    → taken one h B ≡ es → e ≡ ending one h B → toldBy e d o ≡ walked t h B
+    → recordsIn one h B ≡ es → e ≡ ending one h B → toldBy e d o ≡ walked t h B
 unfolding walked
 tells f h B e q x = rw (x, f .distance-is, f .hop-is, q)

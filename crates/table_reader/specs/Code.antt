@@ -10,7 +10,7 @@ use Rattle.method.specs.Marks.{distanceOf, hopOf, unknownMark, unreachableMark,
 use Rattle.refusal.specs.Rows.{first, answer, askRows}
 use Rattle.table.specs.File.{one}
 use Rattle.table.specs.declared.Header.{Header}
-use Rattle.table.specs.Reader.{taken, Read, refusal, says}
+use Rattle.table.specs.Reader.{recordsIn, Read, refusal, says}
 use Rattle.table.specs.declared.Answer.{Answer}
 use Rattle.table.specs.declared.Answer.the-variants.{Entry, Refused}
 use Rattle.table.specs.declared.Ending.{Ending}
@@ -39,7 +39,7 @@ toldBy ending distance hop = record { ending = ending; distance = distance; hop 
 
 -- what the records of a file with the header h tell of target t
 unfoldable pub walked : ℕ → Header → List ℕ → Walked
-walked t h B = toldBy (ending one h B) (recordDistance (find t (taken one h B))) (recordHop (find t (taken one h B)))
+walked t h B = toldBy (ending one h B) (recordDistance (find t (recordsIn one h B))) (recordHop (find t (recordsIn one h B)))
 
 -- the answer for target t where `absent` is what a missing record says
 abbrev pub answeredBy : ℕ → ℕ → ℕ → ℕ → ℕ → ℕ → Answer

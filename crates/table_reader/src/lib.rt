@@ -15,7 +15,7 @@ ghost use lib.Dec.{eqb};
 ghost use Rattle.bits.specs.Bits.{bitsOf};
 ghost use Rattle.method.specs.If.{if_then_else_};
 ghost use Rattle.table.specs.File.{one};
-ghost use Rattle.table.specs.Reader.{taken, reading, entryRead};
+ghost use Rattle.table.specs.Reader.{recordsIn, reading, entryRead};
 ghost use Rattle.call.specs.Files.{entriesOutcome, tableRoom};
 ghost use Rattle.table_records.specs.Parts.{HasHeader, ending};
 ghost use Rattle.table_reader.specs.Code.{walked, answeredBy, answerOf};
@@ -165,7 +165,7 @@ fn put_absent(room: &mut [u16], n: u32, mark: u16)
 // Stores the records of a file.
 fn put_known(room: &mut [u16], file: &[u8], h: Header)
     requires { ⌜ HasHeader (now file) h × (2 * h .n ≤ length (now room)) ⌝ }
-    ensures { λ _. ⌜ now (room .exit) ≡ withRecords (taken one h (bitsOf (now (file .entry)))) (now (room .entry)) ⌝ }
+    ensures { λ _. ⌜ now (room .exit) ≡ withRecords (recordsIn one h (bitsOf (now (file .entry)))) (now (room .entry)) ⌝ }
 {
     let mut c = table_records::begin();
     loop {
@@ -189,7 +189,7 @@ fn put_known(room: &mut [u16], file: &[u8], h: Header)
 fn put_all(file: &[u8], h: Header, mark: u16, room: &mut [u16]) -> Outcome
     requires { ⌜ HasHeader (now file) h ⌝ }
     ensures { λ r. ⌜ (r ≡ allOutcome (h .n) (now (room .entry)))
-        × (now (room .exit) ≡ allRoom (h .own) (h .n) mark (taken one h (bitsOf (now (file .entry)))) (now (room .entry))) ⌝ }
+        × (now (room .exit) ≡ allRoom (h .own) (h .n) mark (recordsIn one h (bitsOf (now (file .entry)))) (now (room .entry))) ⌝ }
 {
     let size = 2 * h.n as usize;
     if room.len() < size {

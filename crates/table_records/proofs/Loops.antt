@@ -9,10 +9,10 @@ use lib.ListN.{length}
 use Rattle.bits.specs.Bits.{bitsOf}
 use Rattle.method.specs.Rules.{Filled}
 use Rattle.refusal.specs.Rows.{refusal, first}
-use Rattle.table.specs.File.{Form, one, start}
+use Rattle.table.specs.File.{Form, one, startOf}
 use Rattle.table.specs.declared.Header.{Header}
 use Rattle.table.specs.declared.Ending.the-variants.{Faulty}
-use Rattle.table.specs.Reader.{stands, taken, endOf, bodyRows}
+use Rattle.table.specs.Reader.{stands, recordsIn, endOf, bodyRows}
 use Rattle.table_records.specs.Parts.{HasHeader, endingAt, ending}
 use Rattle.table_records.specs.Walk.{beginning, At, AdvancesTo, Advances, Places, Narrow}
 use Rattle.table_records.specs.declared.Cursor.{Cursor}
@@ -41,7 +41,7 @@ module _ {f : Form} {h : Header} {B : List ℕ} {c : Cursor} {es : List Filled} 
     pub wrong-stands : stands f B (c .at) ≡ true
     wrong-stands = wrong .1
 
-    pub wrong-taken : taken f h B ≡ es
+    pub wrong-taken : recordsIn f h B ≡ es
     wrong-taken = wrong .0 .0
 
     pub wrong-ends : (place : ℕ) → Places f h B c place → Faulty (refusal 17 place) ≡ ending f h B
@@ -53,11 +53,11 @@ module _ {f : Form} {h : Header} {B : List ℕ} {c : Cursor} {es : List Filled} 
     nothing : AdvancesTo f h B c es Nothing
     nothing = subst (AdvancesTo f h B c es) e (met es a)
 
-    pub nothing-taken : taken f h B ≡ es
+    pub nothing-taken : recordsIn f h B ≡ es
     nothing-taken = nothing .0 .0
 
     pub nothing-ends : endingAt B (c .at) ≡ ending f h B
     unfolding endingAt
     nothing-ends =
-        let end : endOf f h B ≡ c .at = ap (λ (xs : List Filled). start f (length xs)) (nothing .0 .0) ∙ sym (a .place) in
+        let end : endOf f h B ≡ c .at = ap (λ (xs : List Filled). startOf f (length xs)) (nothing .0 .0) ∙ sym (a .place) in
         rw (nothing .0 .1, end, nothing .1)

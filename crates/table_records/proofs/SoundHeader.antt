@@ -14,7 +14,7 @@ use Rattle.refusal.specs.Rows.{Row, first, answerBy}
 use Rattle.refusal.proofs.Rows.{clear, before-all, after-none, answer-some}
 use Rattle.table.specs.File.{one, headerOf}
 use Rattle.table.specs.declared.Header.{Header}
-use Rattle.table.specs.Reader.{headerAt, headerRows, taken, zeroBit, endOf, bodyRows, fileRows, refused, accepted, reading}
+use Rattle.table.specs.Reader.{headerAt, headerRows, recordsIn, zeroBit, endOf, bodyRows, fileRows, refused, accepted, reading}
 use Rattle.table.specs.declared.Ending.the-variants.{Unfinished, Marked, Faulty}
 use Rattle.table.proofs.Walk.{header-sound}
 use Rattle.table_records.specs.Parts.{HasHeader, ending, concluded}
@@ -30,14 +30,15 @@ fault-refuses s r e n =
     rw all (answer-some r refused _ n)
 
 -- then the records tell
-pub reading-is : (s : List ℕ) (h : Header) → HasHeader s h → reading one s ≡ concluded h (taken one h (bitsOf s)) (ending one h (bitsOf s))
+pub reading-is : (s : List ℕ) (h : Header) → HasHeader s h
+    → reading one s ≡ concluded h (recordsIn one h (bitsOf s)) (ending one h (bitsOf s))
 unfolding reading fileRows
 reading-is s h d =
     rw (after-none (headerRows one (headerAt one (bitsOf s)) s) (bodyRows one (headerAt one (bitsOf s)) (bitsOf s)) (d .sound), d .same)
     (go (Rows.refused (bodyRows one h (bitsOf s))) (zeroBit (bitsOf s) (endOf one h (bitsOf s))))
   where
-    go : (N : ℕ) (mark : Bool) → answerBy N (refused (first (bodyRows one h (bitsOf s)))) (accepted h (taken one h (bitsOf s)) mark)
-        ≡ concluded h (taken one h (bitsOf s))
+    go : (N : ℕ) (mark : Bool) → answerBy N (refused (first (bodyRows one h (bitsOf s)))) (accepted h (recordsIn one h (bitsOf s)) mark)
+        ≡ concluded h (recordsIn one h (bitsOf s))
         (answerBy N (Faulty (first (bodyRows one h (bitsOf s)))) (if mark then Marked else Unfinished))
     go zero true = refl
     go zero false = refl

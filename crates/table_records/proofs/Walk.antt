@@ -16,9 +16,9 @@ use Rattle.method.specs.Entries.{lastDistance}
 use Rattle.refusal.specs.declared.Refusal.{Refusal}
 use Rattle.refusal.specs.Rows.{Row, refusal, first, refused}
 use Rattle.refusal.proofs.Rows.{clear, answer-by}
-use Rattle.table.specs.File.{Form, one, headerSize, recordSize, start}
+use Rattle.table.specs.File.{Form, one, headerSize, recordSize, startOf}
 use Rattle.table.specs.declared.Header.{Header}
-use Rattle.table.specs.Reader.{stands, walk, taken, recordAt, fieldRows, recordRows, nextRows}
+use Rattle.table.specs.Reader.{stands, walk, recordsIn, recordAt, fieldRows, recordRows, nextRows}
 use Rattle.table.proofs.Sizes.{start-zero, start-suc}
 use Rattle.table.proofs.Passed.{few-records, last-distance}
 use Rattle.table.proofs.Walk.{stands-fits, walk-stop, walk-on, record-passes, body-first}
@@ -28,7 +28,7 @@ use Rattle.table_records.specs.declared.Cursor.{Cursor}
 use Rattle.table_records.proofs.Seen.{seen-is, seen-below}
 
 pub at-begin : (h : Header) (B : List ℕ) → At one h B beginning []
-unfolding seenOf taken
+unfolding seenOf recordsIn
 at-begin h B =
     let e : length B - 0 ≡ length B = omega arith in
     record { passed = tt; walks = rw e; place = refl; seen = refl; distance = refl }
@@ -52,10 +52,10 @@ module _ {f : Form} {h : Header} {B : List ℕ} {c : Cursor} {es : List Filled} 
   abbrev rows : List Row
   rows = recordRows f h es here
 
-  ends : taken f h B ≡ es → Ends f h B c es
+  ends : recordsIn f h B ≡ es → Ends f h B c es
   ends q = (
     q,
-    body-first f h B ∙ ap (λ (xs : List Filled). first (nextRows f h xs B (start f (length xs)))) q
+    body-first f h B ∙ ap (λ (xs : List Filled). first (nextRows f h xs B (startOf f (length xs)))) q
         ∙ ap (λ (p : ℕ). first (nextRows f h es B p)) (sym (a .place)),
   )
 
@@ -68,7 +68,7 @@ module _ {f : Form} {h : Header} {B : List ℕ} {c : Cursor} {es : List Filled} 
     pub at-wrong : refused rows ≢ 0 → Ends f h B c es
     at-wrong n = ends (a .walks ∙ walk-stop f h (length B - length es) es B (c .at) (rw (there, ne-eqb (refused rows) 0 n)))
 
-    takes-one : refused rows ≡ 0 → taken f h B ≡ walk f h (length B - suc (length es)) (here ∷ es) B (c .at + recordSize f)
+    takes-one : refused rows ≡ 0 → recordsIn f h B ≡ walk f h (length B - suc (length es)) (here ∷ es) B (c .at + recordSize f)
     takes-one z =
         let l : length es < length B = omega (arith, stands-fits f B (c .at) there, a .place) in
         a .walks
@@ -96,7 +96,7 @@ module _ {f : Form} {h : Header} {B : List ℕ} {c : Cursor} {es : List Filled} 
       let q : c .distance + d - lastDistance es ≡ d = omega (arith, a .distance) in
       rw (e, q, a .seen, seen-is h es (a .passed) y g, first-one (length es) (a .place), a .place)
     where
-      first-one : (k : ℕ) → c .at ≡ start f k → eqb (c .at) (headerSize f) ≡ eqb k 0
+      first-one : (k : ℕ) → c .at ≡ startOf f k → eqb (c .at) (headerSize f) ≡ eqb k 0
       first-one zero p = eq-eqb (c .at) (headerSize f) (p ∙ start-zero f)
       first-one (suc k) p = ne-eqb (c .at) (headerSize f) (omega (arith, p, start-suc f k)) ∙ sym (ne-eqb (suc k) 0 (omega arith))
 

@@ -9,9 +9,9 @@ use lib.Dec.{eqb}
 use Rattle.method.specs.Rules.{Filled}
 use Rattle.method.specs.Entries.{lastDistance}
 use Rattle.refusal.specs.Rows.{refusal, first, refused}
-use Rattle.table.specs.File.{Form, start}
+use Rattle.table.specs.File.{Form, startOf}
 use Rattle.table.specs.declared.Header.{Header}
-use Rattle.table.specs.Reader.{stands, walk, taken, recordAt, recordRows, nextRows, bodyRows}
+use Rattle.table.specs.Reader.{stands, walk, recordsIn, recordAt, recordRows, nextRows, bodyRows}
 use Rattle.table.specs.Passed.{Passed}
 use Rattle.table_records.specs.declared.Cursor.{Cursor}
 use Rattle.table_records.specs.declared.Met.{Met}
@@ -34,14 +34,14 @@ beginning = record { at = 16; seen = 0; distance = 0 }
 -- all is what it takes from here on
 pub record At (f : Form) (h : Header) (B : List ℕ) (c : Cursor) (es : List Filled) : Type 0 where
   pub passed : Passed h es
-  pub walks : taken f h B ≡ walk f h (length B - length es) es B (c .at)
-  pub place : c .at ≡ start f (length es)
+  pub walks : recordsIn f h B ≡ walk f h (length B - length es) es B (c .at)
+  pub place : c .at ≡ startOf f (length es)
   pub seen : c .seen ≡ seenOf es
   pub distance : c .distance ≡ lastDistance es
 
 -- the records end at the cursor: those taken are es, and the file is refused by the first row of what stands there, if one holds
 abbrev pub Ends : Form → Header → List ℕ → Cursor → List Filled → Type 0
-Ends f h B c es = (taken f h B ≡ es) × (first (bodyRows f h B) ≡ first (nextRows f h es B (c .at)))
+Ends f h B c es = (recordsIn f h B ≡ es) × (first (bodyRows f h B) ≡ first (nextRows f h es B (c .at)))
 
 -- what a step finds there: one record more; or the records end here, with a record that is refused, or with none
 abbrev pub AdvancesTo : Form → Header → List ℕ → Cursor → List Filled → Met → Type 0

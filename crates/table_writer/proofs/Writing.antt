@@ -16,7 +16,7 @@ use Rattle.bits.proofs.Bytes.{packed-bits}
 use Rattle.method.specs.Rules.{Filled}
 use Rattle.method.specs.Entries.{lastDistance}
 use Rattle.table_writer.specs.Lent.{listed}
-use Rattle.table.specs.File.{Form, one, headerBits, recordBits, bodyBits, toEdge, endBits, fileBits, fileOf, start}
+use Rattle.table.specs.File.{Form, one, headerBits, recordBits, bodyBits, toEdge, endBits, fileBits, fileOf, startOf}
 use Rattle.table.specs.declared.Header.{Header}
 use Rattle.table.specs.Size.{bytesFor}
 use Rattle.table_writer.specs.Code.{threeFields, recordsBits, flushed, Pending, finished}
@@ -159,12 +159,12 @@ body-parts f h (e ∷ es) = rw (body-parts f h es) (append-assoc (headerBits f h
 
 -- a room with all of a file's bits
 pub file-stands : (before room : List ℕ) (h : Header) (es : List Filled) (mark : Bool) → Bytes room → length room ≡ length before
-    → bytesFor mark (start one (length es)) ≤ length before
-    → Pending before room (bytesFor mark (start one (length es))) 0 0 (bodyBits one h es ++ endBits mark (start one (length es)))
+    → bytesFor mark (startOf one (length es)) ≤ length before
+    → Pending before room (bytesFor mark (startOf one (length es))) 0 0 (bodyBits one h es ++ endBits mark (startOf one (length es)))
     → room ≡ fileOf one h es mark ++ drop (length (fileOf one h es mark)) before
 unfolding asBits fileOf fileBits
 file-stands before room h es mark by l g p =
-    let c : ℕ = bytesFor mark (start one (length es)) in
+    let c : ℕ = bytesFor mark (startOf one (length es)) in
     let F : List ℕ = fileBits one h es mark in
     let t : length (take c room) ≡ c = length-take-le c room (omega arith) in
     let s : length F / 8 ≡ c = omega (arith, length-file-bits one h es mark) in
@@ -190,7 +190,7 @@ module _ (t d hs : List ℕ) (h : Header) (k : ℕ) (mark : Bool) where
       → Pending first room (p / 8) (p % 8) held (bitsOf (take 2 first) ++ recordsBits one es) → last ≡ finished room p held mark
       → last ≡ fileOf one h es mark ++ drop (length (fileOf one h es mark)) before
   listed-written before first room last v held g lf lr ll by ev ef pe el =
-      let s : start one (length es) ≡ p = ap (λ (n : ℕ). 16 + 13 * n) (length-rows t d hs k) in
+      let s : startOf one (length es) ≡ p = ap (λ (n : ℕ). 16 + 13 * n) (length-rows t d hs k) in
       let header : Pending before first 2 0 v (headerBits one h) =
       rw (← ef) at (header-stored before h v (omega (arith, end-after mark p)) ev) in
       let body = end-stored p mark (stored-after (recordsBits one es) header pe (omega arith)) (omega arith) in
