@@ -1,5 +1,5 @@
 -- `number`: the digits of the tenth, and the last digit right after them. The number falls at each call.
-use Prim.Native.Nat.{ℕ, _≤_}
+use Prim.Native.Nat.{ℕ, _≤_, _<_}
 use native.Mathlib.Omega.{arith}
 use Rattle.house_text.proofs.Decimal.{one-digit, more-digits}
 use Rattle.house_text.proofs.Writing.{front, rest, both}
