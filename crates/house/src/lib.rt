@@ -29,7 +29,7 @@ pub fn house_table(input: &[u8], room: &mut [u8; 8192]) -> usize
     ensures { λ r. ⌜ Front (now (room .entry)) (text (now (input .entry))) (now (room .exit)) r ⌝ }
 {
     let end = network_end(input);
-    let found = network::check(&input[..end]);
+    let found = network_bytes::check(&input[..end]);
     let n = found.laid[network::NODES] as usize;
     let mut counts = [0u64; 4];
     let mut entries = [0u16; ENTRY_NUMBERS];

@@ -1,9 +1,9 @@
 -- `check`: what is laid out of bytes that are not refused is their network.
 use mathlib.Core.Path.{sym, _∙_}
 use borrow.Author.Needs.{needs}
 use Rattle.network.proofs.Laws.{checks}
-use Rattle.network.proofs.check.Statement.{statement}
-use Rattle.network.proofs.check.Tie as tie
+use Rattle.network_bytes.proofs.check.Statement.{statement}
+use Rattle.network_bytes.proofs.check.Tie as tie
 
 lay-requires : tie.Need-lay-requires
 lay-requires c κs = search needs
