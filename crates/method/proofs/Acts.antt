@@ -1,19 +1,18 @@
--- Each thing that a node does at a turn keeps what holds of it: it stops, waits, fills, or takes what makes nothing known.
+-- What has an entry when a node takes its turn. A node that stops, waits, or takes what makes nothing known keeps what holds of it.
 use mathlib.Core.Path.{_≡_, refl, sym, ap, subst, _∙_}
-use mathlib.Core.Logic.{_⊎_, inl, inr, _≢_}
+use mathlib.Core.Logic.{_⊎_, inl, inr}
 use mathlib.Core.Bool.{Bool, true, false, cond}
 use mathlib.Core.Option.{none, some}
 use mathlib.Core.List.{List, _∷_}
 use Prim.Native.Nat.{ℕ, suc, _+_, _*_, _≤_, _<_}
-use native.Mathlib.Nat.{le-of-eq}
 use native.Mathlib.Omega.{arith}
 use lib.Dec.{eqb}
 use lib.ListN.{length}
-use borrow.Author.Tests.{eqb-true, eqb-false}
+use borrow.Author.Tests.{eqb-true}
 use Rattle.method.specs.Network.{Net, IsArc, Valid}
-use Rattle.method.specs.Distance.{Chain, here, via, Distance, Starts, Right}
+use Rattle.method.specs.Distance.{Chain, here, via}
 use Rattle.method.specs.Message.{Msg, label, len, end, Item, finite, infinite, lastLen, item, sendLen}
-use Rattle.method.specs.Rules.{Filled, started, stopped, Node, Choice, stop, wait, fill}
+use Rattle.method.specs.Rules.{Filled, started, stopped, Node, Choice, stop, wait}
 use Rattle.method.specs.Distinct.{Among}
 use Rattle.method.specs.Invariant.{In, Has, Labelled, Complete, Good, endsSent, Ok}
 use Rattle.method.proofs.Sent.{Under, complete, item-lastLen, sendLen-last, sendLen-labels, sendLen-ends}
@@ -33,25 +32,18 @@ labelled-with T h m y k w = go m (eqb k h)
     go end true = w
     go m false = w
 
-labelled-now : (T : ℕ → List Msg) (h y : ℕ) → Labelled y (with T h (label y) h)
-labelled-now T h y = go (eqb h h) refl
-  where
-    go : (b : Bool) → eqb h h ≡ b → Labelled y (cond b (label y ∷ T h) (T h))
-    go true q = inl refl
-    go false q = absurd (eqb-false h h q refl)
-
 module _ (net : Net) (i : ℕ) (T : ℕ → List Msg) (nd : Node) (ok : Ok net i T nd) (true-lists : (j : ℕ) → Good (net .arcs) j (T j))
     (up : nd .phase ≡ started) where
-  own-entry : Has i (nd .table)
+  pub own-entry : Has i (nd .table)
   own-entry = ok .own (λ e. started-unstarted (nd .phase) up e)
 
-  reached : nd .lp + net .lmax ≤ length (nd .table) * net .lmax
+  pub reached : nd .lp + net .lmax ≤ length (nd .table) * net .lmax
   reached = ok .reach (λ e. started-unstarted (nd .phase) up e)
 
   sent-label : (y : ℕ) → Has y (nd .table) → Labelled y (nd .sent)
   sent-label y h = subst (λ (xs : List ℕ). Among y xs) (sym (ok .each)) h
 
-  kept-traced : (h : ℕ) (m : Msg) (e : Filled) → In e (nd .table) → (e .target ≡ i) ⊎ Labelled (e .target) (with T h m (e .hop))
+  pub kept-traced : (h : ℕ) (m : Msg) (e : Filled) → In e (nd .table) → (e .target ≡ i) ⊎ Labelled (e .target) (with T h m (e .hop))
   kept-traced h m e w = go (ok .traced e w)
     where
       go : (e .target ≡ i) ⊎ Labelled (e .target) (T (e .hop)) → (e .target ≡ i) ⊎ Labelled (e .target) (with T h m (e .hop))
@@ -94,7 +86,7 @@ module _ (net : Net) (i : ℕ) (T : ℕ → List Msg) (nd : Node) (ok : Ok net i
       }
 
   module _ (p : Choice) (ch : Chooses net i T (some p)) where
-    sum-le : (j l v : ℕ) → IsArc (net .arcs) i j l → item (T j) ≡ finite v → p .sum ≤ l + v
+    pub sum-le : (j l v : ℕ) → IsArc (net .arcs) i j l → item (T j) ≡ finite v → p .sum ≤ l + v
     sum-le j l v a e = go (ch .1 j l v a e)
       where
         go : Before (net .rank) (p .sum) (p .head) (l + v) j → p .sum ≤ l + v
@@ -126,6 +118,10 @@ module _ (net : Net) (i : ℕ) (T : ℕ → List Msg) (nd : Node) (ok : Ok net i
 
     sum-complete : Complete (net .arcs) i (p .sum) (nd .sent)
     sum-complete y d c lt = sent-label y (near y d c lt)
+
+    -- the least sum may be sent
+    pub sum-good : Good (net .arcs) i (sendLen (nd .sent) (p .sum))
+    sum-good = sendLen-good (net .arcs) i (nd .sent) (p .sum) (ok .good) floor sum-complete
 
     -- past LP + LMAX nothing is left: walk the chain
     pub past : Valid net → nd .lp + net .lmax < p .sum → (z : ℕ) → Has z (nd .table) → (y s : ℕ) → Chain (net .arcs) z y s
@@ -185,104 +181,23 @@ module _ (net : Net) (i : ℕ) (T : ℕ → List Msg) (nd : Node) (ok : Ok net i
         front j l v a end gm true eb e = let z : _≡_ {A = ℕ} 0 1 = cc in absurd (omega arith)
         front j l v a m gm false eb e = ok .front j l v a e
 
-    module _ (close : p .sum ≤ nd .lp + net .lmax) where
-      -- it sends the least sum and waits
-      pub wait-ok : Ok net i T (wait nd (p .sum))
-      wait-ok =
-          record {
-            good = sendLen-good (net .arcs) i (nd .sent) (p .sum) (ok .good) floor sum-complete;
-            each = sendLen-labels (nd .sent) (p .sum) ∙ ok .each;
-            right = ok .right;
-            front = λ j l v a e. omega (arith, sendLen-last (nd .sent) (p .sum), sum-le j l v a e);
-            heard = ok .heard;
-            traced = ok .traced;
-            pace = ok .pace;
-            last = ok .last;
-            spoken = omega (arith, sendLen-last (nd .sent) (p .sum), ok .spoken, floor);
-            reach = ok .reach;
-            far = omega (arith, sendLen-last (nd .sent) (p .sum), reached);
-            blank = λ e. started-unstarted (nd .phase) up e;
-            own = ok .own;
-            shut = λ e. started-stopped (nd .phase) up e;
-            ended = sendLen-ends (nd .sent) (p .sum) ∙ ok .ended;
-          }
-
-      -- a label of a node without entry: nothing is nearer, no hop lower
-      module _ (y : ℕ) (new : Has y (nd .table) → ⊥) (gm : Good (net .arcs) (p .head) (label y ∷ T (p .head))) where
-        pub starts : Starts (net .arcs) i y (p .sum) (p .head)
-        starts =
-            record {
-              len = ch .0 .len;
-              rest = ch .0 .now;
-              arc = ch .0 .arc;
-              chain = subst (λ (d : ℕ). Chain (net .arcs) (p .head) y d) (item-lastLen (T (p .head)) (ch .0 .now) (ch .0 .itemIs))
-                  (gm .1 .chain);
-              sum = ch .0 .sumIs;
-            }
-
-        distance : Distance (net .arcs) i y (p .sum)
-        distance = record { chain = via (p .head) (starts .len) (starts .rest) (starts .arc) (starts .chain) (starts .sum); least = least }
-          where
-            least : (s : ℕ) → Chain (net .arcs) i y s → p .sum ≤ s
-            least s c = let h : ¬ (s < p .sum) = λ lt. new (near y s c lt) in omega arith
-
-        new-right : Right net i y (p .sum) (p .head)
-        new-right = record { distance = distance; hop = inr (not-own, record { starts = starts; lowest = lowest }) }
-          where
-            not-own : y ≢ i
-            not-own e = new (subst (λ (k : ℕ). Has k (nd .table)) (sym e) own-entry)
-
-            lowest : (h : ℕ) → Starts (net .arcs) i y (p .sum) h → net .rank (p .head) ≤ net .rank h
-            lowest h s = go (first y new h (s .len) (s .rest) (s .arc) (s .chain))
-              where
-                go : Before (net .rank) (p .sum) (p .head) (s .len + s .rest) h → net .rank (p .head) ≤ net .rank h
-                go (inl lt) = absurd (omega (arith, s .sum))
-                go (inr r) = r .1
-
-        pub fill-ok : Ok net i (with T (p .head) (label y)) (fill nd p y)
-        fill-ok =
-            record {
-              good = (sendLen-good (net .arcs) i (nd .sent) (p .sum) (ok .good) floor sum-complete, far-enough, unsent);
-              each = ap (λ (xs : List ℕ). y ∷ xs) (sendLen-labels (nd .sent) (p .sum) ∙ ok .each);
-              right = right;
-              front = front;
-              heard = λ j z h. heard j z (eqb j (p .head)) h;
-              traced = traced;
-              pace = (omega (arith, ok .last, ok .spoken, floor), omega (arith, ok .last), ok .pace);
-              last = refl;
-              spoken = le-of-eq (sym (sendLen-last (nd .sent) (p .sum)));
-              reach = λ u. omega (arith, reached);
-              far = omega (arith, sendLen-last (nd .sent) (p .sum), reached);
-              blank = λ e. started-unstarted (nd .phase) up e;
-              own = λ u. inr own-entry;
-              shut = λ e. started-stopped (nd .phase) up e;
-              ended = sendLen-ends (nd .sent) (p .sum) ∙ ok .ended;
-            }
-          where
-            far-enough : Distance (net .arcs) i y (lastLen (sendLen (nd .sent) (p .sum)))
-            far-enough = subst (λ (d : ℕ). Distance (net .arcs) i y d) (sym (sendLen-last (nd .sent) (p .sum))) distance
-
-            unsent : Labelled y (sendLen (nd .sent) (p .sum)) → ⊥
-            unsent h = new (subst (λ (xs : List ℕ). Among y xs) (sendLen-labels (nd .sent) (p .sum) ∙ ok .each) h)
-
-            right : (e : Filled) → In e (fill nd p y .table) → Right net i (e .target) (e .distance) (e .hop)
-            right e (inl q) = subst (λ (f : Filled). Right net i (f .target) (f .distance) (f .hop)) (sym q) new-right
-            right e (inr m) = ok .right e m
-
-            heard : (j z : ℕ) (b : Bool) → Labelled z (cond b (label y ∷ T j) (T j)) → Has z (fill nd p y .table)
-            heard j z true (inl q) = inl q
-            heard j z true (inr w) = inr (ok .heard j z w)
-            heard j z false w = inr (ok .heard j z w)
-
-            traced : (e : Filled) → In e (fill nd p y .table) → (e .target ≡ i) ⊎ Labelled (e .target) (with T (p .head) (label y) (e .hop))
-            traced e (inl q) = inr (subst (λ (f : Filled). Labelled (f .target) (with T (p .head) (label y) (f .hop))) (sym q)
-                (labelled-now T (p .head) y))
-            traced e (inr m) = kept-traced (p .head) (label y) e m
-
-            front : (j l v : ℕ) → IsArc (net .arcs) i j l → item (with T (p .head) (label y) j) ≡ finite v
-                → lastLen (fill nd p y .sent) ≤ l + v
-            front j l v a e = omega (arith, sendLen-last (nd .sent) (p .sum), sum-le j l v a (go (eqb j (p .head)) e))
-              where
-                go : (b : Bool) → item (cond b (label y ∷ T j) (T j)) ≡ finite v → item (T j) ≡ finite v
-                go true w = w
-                go false w = w
+    -- it sends the least sum and waits
+    pub wait-ok : p .sum ≤ nd .lp + net .lmax → Ok net i T (wait nd (p .sum))
+    wait-ok close =
+        record {
+          good = sum-good;
+          each = sendLen-labels (nd .sent) (p .sum) ∙ ok .each;
+          right = ok .right;
+          front = λ j l v a e. omega (arith, sendLen-last (nd .sent) (p .sum), sum-le j l v a e);
+          heard = ok .heard;
+          traced = ok .traced;
+          pace = ok .pace;
+          last = ok .last;
+          spoken = omega (arith, sendLen-last (nd .sent) (p .sum), ok .spoken, floor);
+          reach = ok .reach;
+          far = omega (arith, sendLen-last (nd .sent) (p .sum), reached);
+          blank = λ e. started-unstarted (nd .phase) up e;
+          own = ok .own;
+          shut = λ e. started-stopped (nd .phase) up e;
+          ended = sendLen-ends (nd .sent) (p .sum) ∙ ok .ended;
+        }

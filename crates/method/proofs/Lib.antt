@@ -7,6 +7,7 @@ pub mod Choosing
 pub mod Table
 pub mod View
 pub mod Acts
+pub mod Fill
 pub mod Again
 pub mod Turns
 pub mod Keeping

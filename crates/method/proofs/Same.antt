@@ -16,7 +16,8 @@ use Rattle.method.specs.Distinct.{Among}
 use Rattle.method.specs.Invariant.{In, targets, Has, labels}
 use Rattle.method.proofs.Table.{Once}
 use Rattle.method.proofs.View.{started-unstarted}
-use Rattle.method.proofs.Acts.{first, starts}
+use Rattle.method.proofs.Acts.{first}
+use Rattle.method.proofs.Fill.{starts}
 use Rattle.method.proofs.Keeping.{Acting, Told, Keeps}
 use Rattle.method.proofs.Lawful.{Lawful}
 use Rattle.method.proofs.Said.{once, stopped-has}
