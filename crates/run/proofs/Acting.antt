@@ -21,9 +21,10 @@ use Rattle.network.specs.Layout.{nodesAt, netOf, Laid}
 use Rattle.run_cells.specs.Part.{Part, tableSize, phaseAt, sentCount, entryCount, waitsAt, deliveredAt, sumsAt, phaseNamed, siteOf, stateOf}
 use Rattle.run_cells.specs.Stores.{Stored, raised, begunPart}
 use Rattle.run_cells.specs.Caches.{Caches}
-use Rattle.run_cells.proofs.Lists.{sent-length, table-length}
+use Rattle.run_cells.proofs.Lists.{sent-length, table-length, row-at}
 use Rattle.run_cells.proofs.Stored.{at}
-use Rattle.run_cells.proofs.Meaning.{counted-else, row-at, delivered-site, begin-site}
+use Rattle.run_cells.proofs.Meaning.{counted-else, delivered-site}
+use Rattle.run_cells.proofs.EntryStores.{begin-site}
 use Rattle.run_cells.proofs.Caching.{begin-caches, hand-caches}
 use Rattle.run_node.specs.Rules.{least, IsChoice}
 use Rattle.run_node.specs.Working.{Working, WaitsFor, Worked}

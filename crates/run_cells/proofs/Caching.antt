@@ -25,8 +25,11 @@ use Rattle.run_cells.specs.Part.{nodeOf, siteOf, entryMarked, sumOf}
 use Rattle.run_cells.specs.Stores.{upd, raised, pushed, lengthSent, waited, noted, filled, stoppedPart, begunPart}
 use Rattle.run_cells.specs.Caches.{Last, Marks, Sums, Caches}
 use Rattle.run_cells.proofs.Stored.{pushed-else, sent-else}
-use Rattle.run_cells.proofs.Meaning.{skip, label-is, table-same, row-at, sent-off, push-site, sent-last, length-site, noted-else}
-use Rattle.run_cells.proofs.Meaning.{noted-kept, noted-mark, noted-old, noted-new, noted-count, noted-sent, noted-table}
+use Rattle.run_cells.proofs.Lists.{row-at}
+use Rattle.run_cells.proofs.Meaning.{skip, table-same, sent-off}
+use Rattle.run_cells.proofs.MessageStores.{label-is, push-site, sent-last, length-site}
+use Rattle.run_cells.proofs.EntryStores.{noted-else, noted-kept, noted-mark, noted-old, noted-new, noted-count, noted-sent}
+use Rattle.run_cells.proofs.EntryStores.{noted-table}
 
 marked-same : (f f′ : Part) (k : ℕ) → ((q : ℕ) → q < k → entryAt f′ q ≡ entryAt f q) → entryMarked f′ k ≡ entryMarked f k
 marked-same f f′ zero e = refl

@@ -1,10 +1,12 @@
--- The lists that a part means: how long they are, and each message of them.
+-- The lists and rows that a part means: how long the lists are, each message of them, and each number of a row.
 use mathlib.Core.Path.{_≡_, refl, ap}
+use mathlib.Core.Bool.{Bool, cond}
 use Prim.Native.Nat.{ℕ, zero, suc, _+_, _-_, _≤_, _<_}
 use native.Mathlib.Omega.{arith}
 use lib.ListN.{length, getD, drop}
+use borrow.Author.Tests.{lt-ltb}
 use Rattle.method.specs.Message.{end, oldest, sentAfter}
-use Rattle.run_cells.specs.Part.{Part, messagesAt, msgOf, sentFrom, tableFrom}
+use Rattle.run_cells.specs.Part.{Part, tableSize, messagesAt, msgOf, sentFrom, tableFrom, row}
 
 pub sent-length : (f : Part) (k : ℕ) → length (sentFrom f k) ≡ k
 sent-length f zero = refl
@@ -33,3 +35,6 @@ dropped f (suc d) (suc k) t e = dropped f d k t (omega arith)
 pub sent-oldest : (f : Part) (k t : ℕ) → t ≤ k → oldest t (sentFrom f k) ≡ sentFrom f t
 unfolding oldest
 sent-oldest f k t le = rw (sent-length f k) (dropped f (k - t) k t (omega arith))
+
+pub row-at : (f : Part) (base h : ℕ) → h < tableSize → row f base h ≡ f (base + h)
+row-at f base h lt = ap (λ (b : Bool). cond b (f (base + h)) 0) (lt-ltb h tableSize lt)

@@ -14,7 +14,7 @@ use Rattle.method.proofs.Enough.{work-rests}
 use Rattle.network.specs.Layout.{lmaxAt, netOf, Laid}
 use Rattle.run_cells.specs.Part.{Part, lpAt, nodeOf, siteOf}
 use Rattle.run_cells.specs.Stores.{Stored, stoppedPart}
-use Rattle.run_cells.proofs.Meaning.{stopped-phase, stop-site}
+use Rattle.run_cells.proofs.MessageStores.{stopped-phase, stop-site}
 use Rattle.run_cells.proofs.Caching.{stop-caches}
 use Rattle.run_node.specs.declared.Heard.{Heard}
 use Rattle.run_node.specs.declared.Heard.the-variants.{Nothing, Label, Length}

@@ -18,7 +18,10 @@ use Rattle.run_cells.specs.Part.{sumOf}
 use Rattle.run_cells.specs.Part.{msgOf, row, nodeOf, siteOf}
 use Rattle.run_cells.specs.Stores.{upd, Stored, raised, waited, filled}
 use Rattle.run_cells.specs.Caches.{Caches}
-use Rattle.run_cells.proofs.Meaning.{hit, skip, counted-else, row-at, label-is, length-is, taken-site, sum-site, fill-site}
+use Rattle.run_cells.proofs.Lists.{row-at}
+use Rattle.run_cells.proofs.Meaning.{hit, skip, counted-else, taken-site, sum-site}
+use Rattle.run_cells.proofs.MessageStores.{label-is, length-is}
+use Rattle.run_cells.proofs.EntryStores.{fill-site}
 use Rattle.run_cells.proofs.Caching.{fill-caches, took-caches}
 use Rattle.run_node.specs.declared.Heard.{Heard}
 use Rattle.run_node.specs.declared.Heard.the-variants.{Nothing, Label, Length}

@@ -25,9 +25,9 @@ use Rattle.run_cells.specs.Part.{Part, tableSize, labelMost, sentMost, sentCoun
 use Rattle.run_cells.specs.Part.{marksAt, noSum, sentFrom, msgOf, nodeOf, siteOf, entryMarked}
 use Rattle.run_cells.specs.Stores.{Rises, waited}
 use Rattle.run_cells.specs.Caches.{Caches}
-use Rattle.run_cells.proofs.Lists.{sent-length, table-length, sent-after, sent-oldest}
+use Rattle.run_cells.proofs.Lists.{sent-length, table-length, sent-after, sent-oldest, row-at}
 use Rattle.run_cells.proofs.Stored.{waited-else, waited-head}
-use Rattle.run_cells.proofs.Meaning.{row-at, label-is, length-is, wait-site}
+use Rattle.run_cells.proofs.MessageStores.{label-is, length-is, wait-site}
 use Rattle.run_cells.proofs.Caching.{wait-caches}
 use Rattle.run_node.specs.Rules.{nextOf, Room, Able}
 use Rattle.run_node.specs.Working.{SentFits, Ready, Did}
