@@ -60,6 +60,8 @@ use prog.Routine.{Routine, Env as Meanings}
 use contract.Running.{GhostRules, Running, givenOf, tables, tablesOf}
 use Rattle.walk.proofs.Form.{Form, Behind}
 use Rattle.walk.proofs.Form as F
+use Rattle.walk.proofs.FormCode.{byte, numberM, word}
+use Rattle.walk.proofs.FormCode as FC
 
 -- a number and its machine value
 pair-is : {f r : ℕ} {u : Val} → u ≡ vint w32 f → f ≡ r → _≡_ {A = ℕ × Val} (f, u) (r, vint w32 r)
@@ -92,35 +94,26 @@ module _ (form : Form) (held-by : Behind form) where
   abbrev foundM : Ty
   foundM = F.foundM (form .shape)
 
-  abbrev byte : Ty
-  byte = F.byte form
-
-  abbrev numberM : Ty
-  numberM = F.numberM form
-
-  abbrev word : Ty
-  word = F.word form
-
   abbrev madeM : Ty
-  madeM = F.madeM form
+  madeM = FC.madeM form
 
   abbrev lentM : Ty
-  lentM = F.lentM form
+  lentM = FC.lentM form
 
   abbrev slice : Ty
-  slice = F.slice form
+  slice = FC.slice form
 
   abbrev turn : Bd.Body
-  turn = F.turn form
+  turn = FC.turn form
 
   abbrev ending : Bd.Body
-  ending = F.ending form
+  ending = FC.ending form
 
   abbrev beginning : Bd.Body
-  beginning = F.beginning form
+  beginning = FC.beginning form
 
   abbrev body : Bd.Body
-  body = F.body form
+  body = FC.body form
 
   abbrev sizes-ended : Ended
   sizes-ended = F.sizes-ended form
@@ -138,7 +131,7 @@ module _ (form : Form) (held-by : Behind form) where
   ended = F.ended (form .shape)
 
   abbrev size : ℕ
-  size = F.size form
+  size = FC.size form
 
   abbrev before-clauses : {M : Type 1} (𝓤 : URA M) → Clauses 𝓤 sizes-ended
   before-clauses 𝓤 = F.before-clauses form 𝓤
@@ -658,9 +651,9 @@ module _ (form : Form) (held-by : Behind form) where
             land ! (from ! (stop !)) (init ! 21 refl (uint-lawful 𝓤 H A W w32 .typed f _ is .0)) $ by ! (headers f u e)))))
 
       pub walk : ent 𝓤 (onEntry 𝓤 H A (ended .signature) (κ, tt) (q, tt) (x 𝓤 n lm κ q b o γ ys) (at 𝓤 n lm κ q b o γ ys))
-          (WpFn 𝓤 H C Λ (F.function form) (vint w8 n ∷ vint w8 lm ∷ sliceVal (b, o) m ∷ []) Post)
+          (WpFn 𝓤 H C Λ (FC.function form) (vint w8 n ∷ vint w8 lm ∷ sliceVal (b, o) m ∷ []) Post)
       walk =
-          qed W (Tokens 𝓤 n lm κ q b o γ ys ∷ Params 𝓤 n lm κ q b o γ ys ∷ []) ∵ enter ! C Λ (F.function form)
+          qed W (Tokens 𝓤 n lm κ q b o γ ys ∷ Params 𝓤 n lm κ q b o γ ys ∷ []) ∵ enter ! C Λ (FC.function form)
           (vint w8 n ∷ vint w8 lm ∷ sliceVal (b, o) m ∷ []) _ $
           alloc1 ! (λ l₀. alloc1 ! (λ l₁. alloc1 !
           (λ l₂. alloc1 ! (λ l₃. alloc1 !
@@ -678,7 +671,7 @@ module _ (form : Form) (held-by : Behind form) where
       (known-begin : Triple 𝓤 (𝓣 .C (form .begin)) (Begin 𝓤 H A)) (known-add : Triple 𝓤 (𝓣 .C (form .add)) (Add 𝓤 H A))
       (known-finish : Triple 𝓤 (𝓣 .C (form .finish)) (Finish 𝓤 H A)) where
     abbrev Runs : List Val → (Val → SProp 𝓤) → SProp 𝓤
-    Runs = WpFn 𝓤 H (𝓣 .C) (𝓣 .Λ) (F.function form)
+    Runs = WpFn 𝓤 H (𝓣 .C) (𝓣 .Λ) (FC.function form)
 
     walks : Walks 𝓤 H A ended stayed Runs (clauses 𝓤)
     walks =
@@ -694,7 +687,7 @@ module _ (form : Form) (held-by : Behind form) where
           goes-none 𝓤 H A W 1 (λ _. u8) held (λ κs x f. refl),
           (goes-none 𝓤 H A W 1 (λ _. u8) held (λ κs x f. refl), (goes-none-slice 𝓤 H A W 1 (0 ∷ []) tt (plain (λ _. ElemRow)) held, tt)),
         )
-        (clauses 𝓤) Runs (WpFn-mono 𝓤 H (W .laws) 𝓣 (F.function form)) walks
+        (clauses 𝓤) Runs (WpFn-mono 𝓤 H (W .laws) 𝓣 (FC.function form)) walks
 
   -- the same from the callees' theorems, where env names what each runs, and fn is the code
   module _ {M : Type 1} (𝓤 : URA M) (H : Heap 𝓤) (𝓜 : Model 𝓤 H) (𝓖 : GhostRules 𝓤 H) (𝓡 : Running 𝓤 H 𝓜) (env : Meanings) where
@@ -709,7 +702,7 @@ module _ (form : Form) (held-by : Behind form) where
 
     pub theorem : Met (form .before) (Before 𝓤 H (𝓖 .A)) → Met (form .begin) (Begin 𝓤 H (𝓖 .A)) → Met (form .add) (Add 𝓤 H (𝓖 .A))
         → Met (form .finish) (Finish 𝓤 H (𝓖 .A))
-        → (fn : Fn) → fn ≡ F.function form → (name : Name) → Closed 𝓤 H (tables 𝓤 H 𝓜 𝓡 env .C) (tables 𝓤 H 𝓜 𝓡 env .Λ) name fn
+        → (fn : Fn) → fn ≡ FC.function form → (name : Name) → Closed 𝓤 H (tables 𝓤 H 𝓜 𝓡 env .C) (tables 𝓤 H 𝓜 𝓡 env .Λ) name fn
         → Triple 𝓤 (tables 𝓤 H 𝓜 𝓡 env .C name) Whole
     unfolding tablesOf
     theorem before begin add finish fn is name closed =
