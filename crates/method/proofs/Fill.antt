@@ -103,7 +103,8 @@ module _ (net : Net) (i : ℕ) (T : ℕ → List Msg) (nd : Node) (ok : Ok net i
 
       front : (j l v : ℕ) → IsArc (net .arcs) i j l → item (with T (p .head) (label y) j) ≡ finite v
           → lastLen (fill nd p y .sent) ≤ l + v
-      front j l v a e = omega (arith, sendLen-last (nd .sent) (p .sum), sum-le net i T nd ok true-lists up p ch j l v a (go (eqb j (p .head)) e))
+      front j l v a e =
+          omega (arith, sendLen-last (nd .sent) (p .sum), sum-le net i T nd ok true-lists up p ch j l v a (go (eqb j (p .head)) e))
         where
           go : (b : Bool) → item (cond b (label y ∷ T j) (T j)) ≡ finite v → item (T j) ≡ finite v
           go true w = w
