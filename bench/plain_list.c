@@ -23,7 +23,7 @@ static uint32_t lay_arc(unsigned k, zaq_arc a, unsigned n, unsigned lmax)
     return 0;
 }
 
-uint32_t PLAIN(check_arcs)(uint8_t n, uint8_t lmax, const zaq_arc *arcs, size_t count)
+uint32_t PLAIN(check_arcs)(uint8_t n, uint8_t lmax, const zaq_arc *arcs, uint64_t count)
 {
     if (n - 1u >= 16)
         return 19;

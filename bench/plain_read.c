@@ -3,7 +3,7 @@
 
 struct walk {
     const uint8_t *file;
-    size_t len, at; /* the byte to be read next */
+    uint64_t len, at; /* the byte to be read next */
     uint32_t held, have; /* the last `have` bits of `held` are not used yet */
 };
 
@@ -27,7 +27,7 @@ static uint32_t ending(const struct walk *w)
     return w->have > 8 || w->held & ((1u << w->have) - 1) ? 18 : ZAQ_UNREACHABLE;
 }
 
-uint32_t PLAIN(read)(const uint8_t *file, size_t file_len, uint32_t target)
+uint32_t PLAIN(read)(const uint8_t *file, uint64_t file_len, uint32_t target)
 {
     if (file_len < 2)
         return 14;

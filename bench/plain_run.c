@@ -26,7 +26,7 @@ static unsigned half(const uint8_t *s, unsigned k)
     return s[k / 2] >> (4 - 4 * (k % 2)) & 15;
 }
 
-static uint32_t read_head(const uint8_t *s, size_t len, struct network *net)
+static uint32_t read_head(const uint8_t *s, uint64_t len, struct network *net)
 {
     if (len < 3)
         return 1;
@@ -42,7 +42,7 @@ static uint32_t read_head(const uint8_t *s, size_t len, struct network *net)
     return len == 3 + (12 * net->arcs + 7) / 8 ? 0 : 1;
 }
 
-static uint32_t read_network(const uint8_t *s, size_t len, struct network *net)
+static uint32_t read_network(const uint8_t *s, uint64_t len, struct network *net)
 {
     uint32_t early = read_head(s, len, net);
     if (early)
@@ -66,7 +66,7 @@ static uint32_t read_network(const uint8_t *s, size_t len, struct network *net)
     return arcs % 2 && s[len - 1] & 15 ? 9 : 0;
 }
 
-uint32_t PLAIN(check)(const uint8_t *net, size_t net_len)
+uint32_t PLAIN(check)(const uint8_t *net, uint64_t net_len)
 {
     struct network laid;
     return read_network(net, net_len, &laid);
@@ -169,11 +169,11 @@ static void work(struct state *s, const struct network *net, unsigned i, unsigne
 }
 
 /* Runs the steps; counts as the header says. */
-static void run(struct state *s, const struct network *net, const uint8_t *steps, size_t len, uint64_t counts[4], uint16_t *entries)
+static void run(struct state *s, const struct network *net, const uint8_t *steps, uint64_t len, uint64_t counts[4], uint16_t *entries)
 {
     size_t idle = 0, unknown = 0, stopped = 0, row = 2 * (size_t)net->n;
     clear(s, net, entries);
-    for (size_t k = 0; k < len; k++) {
+    for (uint64_t k = 0; k < len; k++) {
         unsigned b = steps[k], i = b;
         if (b >= 16) {
             if (b - 16 >= net->arcs) {
@@ -206,25 +206,25 @@ static void run(struct state *s, const struct network *net, const uint8_t *steps
 }
 
 uint32_t PLAIN(run)(
-    const uint8_t *bytes, size_t net_len, const uint8_t *steps, size_t steps_len, uint64_t counts[4], uint16_t *entries, size_t entries_len)
+    const uint8_t *bytes, uint64_t net_len, const uint8_t *steps, uint64_t steps_len, uint64_t counts[4], uint16_t *entries, uint64_t len)
 {
     struct network net;
     struct state s;
     uint32_t refusal = read_network(bytes, net_len, &net);
     if (refusal)
         return refusal;
-    if (entries_len < 2 * (size_t)net.n * net.n) /* the run cannot be refused, so its room can be looked at before it */
+    if (len < 2 * (size_t)net.n * net.n) /* the run cannot be refused, so its room can be looked at before it */
         return 13;
     run(&s, &net, steps, steps_len, counts, entries);
     return 0;
 }
 
 /* Writes node i's file; the answer as the header says. */
-static uint32_t put_file(const struct state *s, const struct network *net, unsigned i, const uint16_t *row, uint8_t *room, size_t room_len)
+static uint32_t put_file(const struct state *s, const struct network *net, unsigned i, const uint16_t *row, uint8_t *room, uint64_t len)
 {
     unsigned stopped = s->phase[i] == 2, bits = 16 + 13 * (s->filled[i] - 1u), size = stopped ? bits / 8 + 1 : (bits + 7) / 8;
     unsigned held = 0, have = 0, before = 0, at = 2;
-    if (room_len < size)
+    if (len < size)
         return 13;
     room[0] = (uint8_t)(16 | i);
     room[1] = (uint8_t)((net->n - 1) << 4 | net->lmax);
@@ -241,7 +241,7 @@ static uint32_t put_file(const struct state *s, const struct network *net, unsig
 }
 
 uint32_t PLAIN(write)(
-    const uint8_t *bytes, size_t net_len, const uint8_t *steps, size_t steps_len, uint32_t node, uint8_t *room, size_t room_len)
+    const uint8_t *bytes, uint64_t net_len, const uint8_t *steps, uint64_t steps_len, uint32_t node, uint8_t *room, uint64_t room_len)
 {
     struct network net;
     struct state s;

@@ -35,7 +35,7 @@ static void from_node(const uint8_t *length, unsigned n, unsigned i, uint16_t *r
     }
 }
 
-uint32_t PLAIN(shortest)(const uint8_t *net, size_t net_len, uint16_t *entries)
+uint32_t PLAIN(shortest)(const uint8_t *net, uint64_t net_len, uint16_t *entries)
 {
     uint8_t length[256] = {0};
     uint32_t refusal = PLAIN(check)(net, net_len);

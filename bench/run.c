@@ -58,7 +58,7 @@ static void by_search(void)
         plain_shortest_O2(houses[k].net, houses[k].net_len, out.entries);
 }
 
-typedef uint32_t (*run_call)(const uint8_t *, size_t, const uint8_t *, size_t, uint64_t[4], uint16_t *, size_t);
+typedef uint32_t (*run_call)(const uint8_t *, uint64_t, const uint8_t *, uint64_t, uint64_t[4], uint16_t *, uint64_t);
 
 /* A wrong rival is none. */
 static void must_agree(const struct house *h, run_call call, const char *name)

@@ -43,7 +43,7 @@ static void by_plain_O3(void)
         sink = plain_write_O3(houses[k].net, houses[k].net_len, houses[k].steps, houses[k].steps_len, k + 1, room, sizeof room);
 }
 
-typedef uint32_t (*write_call)(const uint8_t *, size_t, const uint8_t *, size_t, uint32_t, uint8_t *, size_t);
+typedef uint32_t (*write_call)(const uint8_t *, uint64_t, const uint8_t *, uint64_t, uint32_t, uint8_t *, uint64_t);
 
 /* A wrong rival is none: the file's bytes, the bytes after it, and a room that is one byte too short. */
 static void must_agree(const struct house *h, uint32_t node, write_call call, const char *name)

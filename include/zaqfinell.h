@@ -3,13 +3,15 @@
  * Link with libzaqfinell.a. Each call takes numbers and buffers and returns one number. No call keeps anything between calls, allocates
  * memory or needs to be set up, so calls may be made from several tasks at once. Lengths and contents may be anything: what is wrong is
  * refused with a number, and a refused call writes nothing. Each length counts the elements of the buffer before it: bytes, arcs, or
- * 16-bit numbers. Pointers must be valid for their lengths, and buffers must not overlap; a buffer of length 0 may be NULL. The library
- * needs memcpy and memset, and nothing else.
+ * 16-bit numbers. A length is a uint64_t on every chip, those of 32 bits too; sizeof values and others of type size_t can be handed over as
+ * they are. Pointers must be valid for their lengths, and buffers must not overlap; a buffer of length 0 may be NULL. The library needs
+ * memcpy and memset, and nothing else.
  *
  * A buffer that a call writes into is called a room. What a call writes stands at the beginning of the room, and the rest of the room is
  * left unchanged. ZAQ_FILE_ROOM and the other sizes ending in _ROOM are always enough; a smaller room is too short for some houses.
  *
- * Stack, measured on x86-64: under 8 KiB for a call that runs steps, under 256 bytes for reading a file (docs/BENCHMARKS.md has each).
+ * Stack, measured on x86-64 and on ARM of 64 and 32 bits: under 8 KiB for a call that runs steps, under 256 bytes for reading a file
+ * (docs/BENCHMARKS.md has each).
  */
 #ifndef ZAQFINELL_H
 #define ZAQFINELL_H
@@ -118,17 +120,17 @@ static inline uint32_t zaq_written(uint32_t answer) { return answer >> 8 & 65535
  */
 
 /* Checks a network's bytes: the answer is ZAQ_ACCEPTED or the refusal. Refusals: the network's. */
-uint32_t zaq_check_network(const uint8_t *net, size_t net_len);
+uint32_t zaq_check_network(const uint8_t *net, uint64_t net_len);
 
 /* Runs the steps over the network and writes the table file of one node: zaq_written bytes. Refusals: the network's, 11, 12, 13. */
 enum { ZAQ_FILE_ROOM = 27 };
 uint32_t zaq_write_table(
-    const uint8_t *net, size_t net_len, const uint8_t *steps, size_t steps_len, uint32_t node, uint8_t *room, size_t room_len);
+    const uint8_t *net, uint64_t net_len, const uint8_t *steps, uint64_t steps_len, uint32_t node, uint8_t *room, uint64_t room_len);
 
 /* Reads one entry from a table file, whole or cut: zaq_distance and zaq_hop. file_len is the length of the file, not of the room that holds
  * it: bytes after the end mark are refused. Refusals: 14, 15, 16, 17 record by record, 18, then 11 for the target.
  */
-uint32_t zaq_read_entry(const uint8_t *file, size_t file_len, uint32_t target);
+uint32_t zaq_read_entry(const uint8_t *file, uint64_t file_len, uint32_t target);
 
 /* ---- For benches, service desks and installers ---- */
 
@@ -136,7 +138,7 @@ uint32_t zaq_read_entry(const uint8_t *file, size_t file_len, uint32_t target);
  * first hop. Refusals: 14, 15, 16, 17 record by record, 18, then 13.
  */
 enum { ZAQ_TABLE_ROOM = 32 };
-uint32_t zaq_read_table(const uint8_t *file, size_t file_len, uint16_t *room, size_t room_len);
+uint32_t zaq_read_table(const uint8_t *file, uint64_t file_len, uint16_t *room, uint64_t room_len);
 
 /* The whole outcome of a run; the answer is ZAQ_ACCEPTED or the refusal. counts: how many steps were taken, idle and unknown, and how many
  * nodes have stopped. entries: 2 * n * n numbers, row by row: node 1's distance or mark and first hop for each target from 1 to n, then
@@ -145,10 +147,11 @@ uint32_t zaq_read_table(const uint8_t *file, size_t file_len, uint16_t *room, si
  */
 enum { ZAQ_ENTRIES_ROOM = 512 };
 uint32_t zaq_run(
-    const uint8_t *net, size_t net_len, const uint8_t *steps, size_t steps_len, uint64_t counts[4], uint16_t *entries, size_t entries_len);
+    const uint8_t *net, uint64_t net_len, const uint8_t *steps, uint64_t steps_len, uint64_t counts[4], uint16_t *entries,
+    uint64_t entries_len);
 
 /* One entry after a run, the node's for the target: zaq_distance and zaq_hop. Refusals: the network's, 11. */
-uint32_t zaq_entry(const uint8_t *net, size_t net_len, const uint8_t *steps, size_t steps_len, uint32_t node, uint32_t target);
+uint32_t zaq_entry(const uint8_t *net, uint64_t net_len, const uint8_t *steps, uint64_t steps_len, uint32_t node, uint32_t target);
 
 /* The route from node to target after a run: zaq_distance is the distance or a mark, and the room gets the zaq_passed nodes that come
  * after `node` on the way, the target last. No node is passed beside a mark, and none where node is target. Refusals: the network's, 11,
@@ -156,8 +159,8 @@ uint32_t zaq_entry(const uint8_t *net, size_t net_len, const uint8_t *steps, siz
  */
 enum { ZAQ_ROUTE_ROOM = 15 };
 uint32_t zaq_route(
-    const uint8_t *net, size_t net_len, const uint8_t *steps, size_t steps_len, uint32_t node, uint32_t target, uint8_t *room,
-    size_t room_len);
+    const uint8_t *net, uint64_t net_len, const uint8_t *steps, uint64_t steps_len, uint32_t node, uint32_t target, uint8_t *room,
+    uint64_t room_len);
 
 /* ---- A network handed over as a list of arcs ----
  *
@@ -170,23 +173,23 @@ typedef struct zaq_arc {
     uint8_t head;
     uint8_t length;
 } zaq_arc;
-uint32_t zaq_check_arcs(uint8_t n, uint8_t lmax, const zaq_arc *arcs, size_t arcs_len);
+uint32_t zaq_check_arcs(uint8_t n, uint8_t lmax, const zaq_arc *arcs, uint64_t arcs_len);
 uint32_t zaq_write_table_arcs(
-    uint8_t n, uint8_t lmax, const zaq_arc *arcs, size_t arcs_len, const uint8_t *steps, size_t steps_len, uint32_t node, uint8_t *room,
-    size_t room_len);
+    uint8_t n, uint8_t lmax, const zaq_arc *arcs, uint64_t arcs_len, const uint8_t *steps, uint64_t steps_len, uint32_t node, uint8_t *room,
+    uint64_t room_len);
 uint32_t zaq_run_arcs(
-    uint8_t n, uint8_t lmax, const zaq_arc *arcs, size_t arcs_len, const uint8_t *steps, size_t steps_len, uint64_t counts[4],
-    uint16_t *entries, size_t entries_len);
+    uint8_t n, uint8_t lmax, const zaq_arc *arcs, uint64_t arcs_len, const uint8_t *steps, uint64_t steps_len, uint64_t counts[4],
+    uint16_t *entries, uint64_t entries_len);
 uint32_t zaq_entry_arcs(
-    uint8_t n, uint8_t lmax, const zaq_arc *arcs, size_t arcs_len, const uint8_t *steps, size_t steps_len, uint32_t node,
+    uint8_t n, uint8_t lmax, const zaq_arc *arcs, uint64_t arcs_len, const uint8_t *steps, uint64_t steps_len, uint32_t node,
     uint32_t target);
 uint32_t zaq_route_arcs(
-    uint8_t n, uint8_t lmax, const zaq_arc *arcs, size_t arcs_len, const uint8_t *steps, size_t steps_len, uint32_t node,
-    uint32_t target, uint8_t *room, size_t room_len);
+    uint8_t n, uint8_t lmax, const zaq_arc *arcs, uint64_t arcs_len, const uint8_t *steps, uint64_t steps_len, uint32_t node,
+    uint32_t target, uint8_t *room, uint64_t room_len);
 
 /* Writes the list as network bytes, zaq_written of them, which the calls without `_arcs` take. Refusals: the list's, then 13. */
 enum { ZAQ_NETWORK_ROOM = 363 };
-uint32_t zaq_pack_network(uint8_t n, uint8_t lmax, const zaq_arc *arcs, size_t arcs_len, uint8_t *room, size_t room_len);
+uint32_t zaq_pack_network(uint8_t n, uint8_t lmax, const zaq_arc *arcs, uint64_t arcs_len, uint8_t *room, uint64_t room_len);
 
 #ifdef __cplusplus
 }

@@ -19,7 +19,8 @@ static int is_node(const struct net *net, uint32_t node)
 
 /* ---- what each call does once the network is taken with this refusal */
 
-static uint32_t write_file(struct run *run, uint32_t refusal, const uint8_t *steps, size_t len, uint32_t node, uint8_t *room, size_t size)
+static uint32_t write_file(
+    struct run *run, uint32_t refusal, const uint8_t *steps, uint64_t len, uint32_t node, uint8_t *room, uint64_t size)
 {
     node = low_bits(node);
     if (refusal)
@@ -33,7 +34,7 @@ static uint32_t write_file(struct run *run, uint32_t refusal, const uint8_t *ste
         return 13;
     if (!run->node[node].started)
         return 12;
-    size_t wanted = file_size(&run->node[node]);
+    uint64_t wanted = file_size(&run->node[node]);
     if (WRONG(stored_before_13) && size > 0)
         room[0] = (uint8_t)(16 | (node - 1));
     if (wanted > size || (WRONG(file_fills_room) && wanted == size))
@@ -45,12 +46,12 @@ static uint32_t write_file(struct run *run, uint32_t refusal, const uint8_t *ste
 }
 
 /* Node i's entry for y, both numbers, at its place. */
-static void put_entry(const struct run *run, unsigned i, unsigned y, uint16_t *entries, size_t limit)
+static void put_entry(const struct run *run, unsigned i, unsigned y, uint16_t *entries, uint64_t limit)
 {
     unsigned n = run->net.n;
-    size_t place = 2 * ((size_t)(i - 1) * (WRONG(rows_of_sixteen) ? 16 : n) + y - 1);
+    uint64_t place = 2 * ((uint64_t)(i - 1) * (WRONG(rows_of_sixteen) ? 16 : n) + y - 1);
     if (WRONG(entries_by_target))
-        place = 2 * ((size_t)(y - 1) * n + i - 1);
+        place = 2 * ((uint64_t)(y - 1) * n + i - 1);
     uint32_t entry = entry_of(run, i, y), first = zaq_distance(entry), second = zaq_hop(entry);
     if (place < limit)
         entries[place] = (uint16_t)(WRONG(hop_first) ? second : first);
@@ -58,7 +59,7 @@ static void put_entry(const struct run *run, unsigned i, unsigned y, uint16_t *e
         entries[place + 1] = (uint16_t)(WRONG(hop_first) ? first : second);
 }
 
-static void put_entries(const struct run *run, uint16_t *entries, size_t limit)
+static void put_entries(const struct run *run, uint16_t *entries, uint64_t limit)
 {
     for (unsigned i = 1; i <= run->net.n; i++)
         for (unsigned y = 1; y <= run->net.n; y++)
@@ -73,7 +74,7 @@ static void put_counts(const struct run *run, uint64_t counts[4])
 }
 
 static uint32_t whole_run(
-    struct run *run, uint32_t refusal, const uint8_t *steps, size_t len, uint64_t counts[4], uint16_t *entries, size_t size)
+    struct run *run, uint32_t refusal, const uint8_t *steps, uint64_t len, uint64_t counts[4], uint16_t *entries, uint64_t size)
 {
     if (WRONG(run_13_first) && size < 2)
         return 13;
@@ -83,7 +84,7 @@ static uint32_t whole_run(
         return refused(refusal);
     }
     run_steps(run, steps, len);
-    size_t wanted = WRONG(run_wants_512) ? 512 : 2 * (size_t)run->net.n * run->net.n;
+    uint64_t wanted = WRONG(run_wants_512) ? 512 : 2 * (uint64_t)run->net.n * run->net.n;
     int is_short = WRONG(run_one_short) ? size + 1 < wanted : size < wanted;
     if (!is_short || WRONG(run_counts_written))
         put_counts(run, counts);
@@ -98,7 +99,7 @@ static uint32_t whole_run(
     return 0;
 }
 
-static uint32_t one_entry(struct run *run, uint32_t refusal, const uint8_t *steps, size_t len, uint32_t node, uint32_t target)
+static uint32_t one_entry(struct run *run, uint32_t refusal, const uint8_t *steps, uint64_t len, uint32_t node, uint32_t target)
 {
     node = low_bits(node);
     if (refusal)
@@ -132,7 +133,7 @@ static unsigned follow(const struct run *run, unsigned node, unsigned target, ui
 }
 
 static uint32_t one_route(
-    struct run *run, uint32_t refusal, const uint8_t *steps, size_t len, uint32_t node, uint32_t target, uint8_t *room, size_t size)
+    struct run *run, uint32_t refusal, const uint8_t *steps, uint64_t len, uint32_t node, uint32_t target, uint8_t *room, uint64_t size)
 {
     uint8_t passed[NODES];
     node = low_bits(node);
@@ -149,42 +150,43 @@ static uint32_t one_route(
         room[k] = passed[k];
     if (is_short)
         return 13;
-    for (size_t k = count; k < size && WRONG(route_clears_rest); k++)
+    for (uint64_t k = count; k < size && WRONG(route_clears_rest); k++)
         room[k] = 0;
     return zaq_distance(entry_of(run, node, target)) << 16 | count << 8;
 }
 
 /* ---- a network's bytes */
 
-uint32_t zaq_check_network(const uint8_t *net, size_t net_len)
+uint32_t zaq_check_network(const uint8_t *net, uint64_t net_len)
 {
     struct net taken;
     return refused(take_network(net, net_len, &taken));
 }
 
 uint32_t zaq_write_table(
-    const uint8_t *net, size_t net_len, const uint8_t *steps, size_t steps_len, uint32_t node, uint8_t *room, size_t room_len)
+    const uint8_t *net, uint64_t net_len, const uint8_t *steps, uint64_t steps_len, uint32_t node, uint8_t *room, uint64_t room_len)
 {
     struct run run = {.counts = {0}};
     return write_file(&run, take_network(net, net_len, &run.net), steps, steps_len, node, room, room_len);
 }
 
 uint32_t zaq_run(
-    const uint8_t *net, size_t net_len, const uint8_t *steps, size_t steps_len, uint64_t counts[4], uint16_t *entries, size_t entries_len)
+    const uint8_t *net, uint64_t net_len, const uint8_t *steps, uint64_t steps_len, uint64_t counts[4], uint16_t *entries,
+    uint64_t entries_len)
 {
     struct run run = {.counts = {0}};
     return whole_run(&run, take_network(net, net_len, &run.net), steps, steps_len, counts, entries, entries_len);
 }
 
-uint32_t zaq_entry(const uint8_t *net, size_t net_len, const uint8_t *steps, size_t steps_len, uint32_t node, uint32_t target)
+uint32_t zaq_entry(const uint8_t *net, uint64_t net_len, const uint8_t *steps, uint64_t steps_len, uint32_t node, uint32_t target)
 {
     struct run run = {.counts = {0}};
     return one_entry(&run, take_network(net, net_len, &run.net), steps, steps_len, node, target);
 }
 
 uint32_t zaq_route(
-    const uint8_t *net, size_t net_len, const uint8_t *steps, size_t steps_len, uint32_t node, uint32_t target, uint8_t *room,
-    size_t room_len)
+    const uint8_t *net, uint64_t net_len, const uint8_t *steps, uint64_t steps_len, uint32_t node, uint32_t target, uint8_t *room,
+    uint64_t room_len)
 {
     struct run run = {.counts = {0}};
     return one_route(&run, take_network(net, net_len, &run.net), steps, steps_len, node, target, room, room_len);
@@ -192,30 +194,30 @@ uint32_t zaq_route(
 
 /* ---- a list of arcs */
 
-uint32_t zaq_check_arcs(uint8_t n, uint8_t lmax, const zaq_arc *arcs, size_t arcs_len)
+uint32_t zaq_check_arcs(uint8_t n, uint8_t lmax, const zaq_arc *arcs, uint64_t arcs_len)
 {
     struct net taken;
     return refused(take_list(n, lmax, arcs, arcs_len, &taken));
 }
 
 uint32_t zaq_write_table_arcs(
-    uint8_t n, uint8_t lmax, const zaq_arc *arcs, size_t arcs_len, const uint8_t *steps, size_t steps_len, uint32_t node, uint8_t *room,
-    size_t room_len)
+    uint8_t n, uint8_t lmax, const zaq_arc *arcs, uint64_t arcs_len, const uint8_t *steps, uint64_t steps_len, uint32_t node, uint8_t *room,
+    uint64_t room_len)
 {
     struct run run = {.counts = {0}};
     return write_file(&run, take_list(n, lmax, arcs, arcs_len, &run.net), steps, steps_len, node, room, room_len);
 }
 
 uint32_t zaq_run_arcs(
-    uint8_t n, uint8_t lmax, const zaq_arc *arcs, size_t arcs_len, const uint8_t *steps, size_t steps_len, uint64_t counts[4],
-    uint16_t *entries, size_t entries_len)
+    uint8_t n, uint8_t lmax, const zaq_arc *arcs, uint64_t arcs_len, const uint8_t *steps, uint64_t steps_len, uint64_t counts[4],
+    uint16_t *entries, uint64_t entries_len)
 {
     struct run run = {.counts = {0}};
     return whole_run(&run, take_list(n, lmax, arcs, arcs_len, &run.net), steps, steps_len, counts, entries, entries_len);
 }
 
 uint32_t zaq_entry_arcs(
-    uint8_t n, uint8_t lmax, const zaq_arc *arcs, size_t arcs_len, const uint8_t *steps, size_t steps_len, uint32_t node,
+    uint8_t n, uint8_t lmax, const zaq_arc *arcs, uint64_t arcs_len, const uint8_t *steps, uint64_t steps_len, uint32_t node,
     uint32_t target)
 {
     struct run run = {.counts = {0}};
@@ -223,14 +225,14 @@ uint32_t zaq_entry_arcs(
 }
 
 uint32_t zaq_route_arcs(
-    uint8_t n, uint8_t lmax, const zaq_arc *arcs, size_t arcs_len, const uint8_t *steps, size_t steps_len, uint32_t node,
-    uint32_t target, uint8_t *room, size_t room_len)
+    uint8_t n, uint8_t lmax, const zaq_arc *arcs, uint64_t arcs_len, const uint8_t *steps, uint64_t steps_len, uint32_t node,
+    uint32_t target, uint8_t *room, uint64_t room_len)
 {
     struct run run = {.counts = {0}};
     return one_route(&run, take_list(n, lmax, arcs, arcs_len, &run.net), steps, steps_len, node, target, room, room_len);
 }
 
-uint32_t zaq_pack_network(uint8_t n, uint8_t lmax, const zaq_arc *arcs, size_t arcs_len, uint8_t *room, size_t room_len)
+uint32_t zaq_pack_network(uint8_t n, uint8_t lmax, const zaq_arc *arcs, uint64_t arcs_len, uint8_t *room, uint64_t room_len)
 {
     struct net net;
     if (WRONG(pack_13_first) && room_len < 3)
@@ -238,7 +240,7 @@ uint32_t zaq_pack_network(uint8_t n, uint8_t lmax, const zaq_arc *arcs, size_t a
     uint32_t refusal = take_list(n, lmax, arcs, arcs_len, &net);
     if (refusal)
         return refused(refusal);
-    size_t size = network_size(&net), wanted = WRONG(pack_wants_363) ? 363 : size;
+    uint64_t size = network_size(&net), wanted = WRONG(pack_wants_363) ? 363 : size;
     if (WRONG(pack_writes_header) && room_len > 0)
         room[0] = (uint8_t)(16 | (n - 1));
     if (WRONG(pack_one_short) ? room_len + 1 < wanted : room_len < wanted)
@@ -251,7 +253,7 @@ uint32_t zaq_pack_network(uint8_t n, uint8_t lmax, const zaq_arc *arcs, size_t a
 
 /* ---- table files */
 
-uint32_t zaq_read_entry(const uint8_t *file, size_t file_len, uint32_t target)
+uint32_t zaq_read_entry(const uint8_t *file, uint64_t file_len, uint32_t target)
 {
     struct table table;
     if (WRONG(target_of_8_bits))
@@ -265,11 +267,11 @@ uint32_t zaq_read_entry(const uint8_t *file, size_t file_len, uint32_t target)
     return outside ? refused(11) : table.entry[target];
 }
 
-uint32_t zaq_read_table(const uint8_t *file, size_t file_len, uint16_t *room, size_t room_len)
+uint32_t zaq_read_table(const uint8_t *file, uint64_t file_len, uint16_t *room, uint64_t room_len)
 {
     struct table table;
     uint32_t refusal = take_file(file, file_len, &table);
-    size_t wanted = 2 * (size_t)table.n;
+    uint64_t wanted = 2 * (uint64_t)table.n;
     int is_short = WRONG(table_one_short) ? room_len + 1 < wanted : room_len < wanted;
     if (WRONG(table_13_first) && refusal > 16 && is_short)
         return 13;

@@ -4,20 +4,20 @@
 
 /* ---- writing */
 
-static size_t file_bits(const struct node *node)
+static uint64_t file_bits(const struct node *node)
 {
-    size_t records = WRONG(own_entry_as_record) ? node->filled : node->filled - 1;
+    uint64_t records = WRONG(own_entry_as_record) ? node->filled : node->filled - 1;
     int mark = node->stopped || WRONG(mark_for_a_waiting_node);
-    size_t bits = 16 + 13 * records;
+    uint64_t bits = 16 + 13 * records;
     return WRONG(mark_left_out) && bits % 8 == 0 ? bits : bits + (mark ? 1 : 0);
 }
 
-size_t file_size(const struct node *node)
+uint64_t file_size(const struct node *node)
 {
     return (file_bits(node) + 7) / 8;
 }
 
-static size_t put_bits(uint8_t *room, size_t place, unsigned width, unsigned value)
+static uint64_t put_bits(uint8_t *room, uint64_t place, unsigned width, unsigned value)
 {
     for (unsigned k = width; k-- > 0; place++) {
         unsigned mask = 128u >> place % 8;
@@ -26,7 +26,7 @@ static size_t put_bits(uint8_t *room, size_t place, unsigned width, unsigned val
     return place;
 }
 
-static size_t put_record(const struct node *node, uint8_t *room, size_t place, unsigned target, unsigned before)
+static uint64_t put_record(const struct node *node, uint8_t *room, uint64_t place, unsigned target, unsigned before)
 {
     unsigned by = WRONG(distance_not_difference) ? node->distance[target] : node->distance[target] - before;
     place = put_bits(room, place, 1, 1);
@@ -53,7 +53,7 @@ void put_file(const struct run *run, unsigned node, uint8_t *room)
     unsigned target[NODES], before = 0, first = WRONG(own_entry_as_record) ? 0 : 1;
     int mark = at->stopped || WRONG(mark_for_a_waiting_node);
     int ones = (!mark && !WRONG(zeros_for_padding)) || (mark && WRONG(ones_after_mark));
-    size_t place = 16, size = file_size(at);
+    uint64_t place = 16, size = file_size(at);
     memset(room, ones ? 255 : 0, size);
     put_bits(room, 0, 4, 1);
     put_bits(room, 4, 4, node - 1);
@@ -70,7 +70,7 @@ void put_file(const struct run *run, unsigned node, uint8_t *room)
 
 /* ---- reading */
 
-static unsigned bits(const uint8_t *file, size_t place, unsigned width)
+static unsigned bits(const uint8_t *file, uint64_t place, unsigned width)
 {
     unsigned value = 0;
     for (unsigned k = 0; k < width; k++, place++)
@@ -99,10 +99,10 @@ static int record_is_wrong(const struct reading *r, unsigned target, unsigned ho
 }
 
 /* Takes the records; where they end, or 0 where one is wrong. */
-static size_t take_records(struct reading *r, const uint8_t *file, size_t len)
+static uint64_t take_records(struct reading *r, const uint8_t *file, uint64_t len)
 {
     unsigned width = WRONG(twelve_bits) ? 12 : 13;
-    size_t place = 16;
+    uint64_t place = 16;
     for (; place + width <= 8 * len && bits(file, place, 1); place += 13) {
         unsigned target = bits(file, place + 1, 4) + 1, hop = bits(file, place + 5, 4) + 1, by = bits(file, place + 9, width - 9);
         if (WRONG(twelve_bits))
@@ -118,25 +118,25 @@ static size_t take_records(struct reading *r, const uint8_t *file, size_t len)
 }
 
 /* How a file ends after its records: 0, 17 or 18; and whether the end mark stands. */
-static uint32_t take_end(const uint8_t *file, size_t len, size_t place, int *ended)
+static uint32_t take_end(const uint8_t *file, uint64_t len, uint64_t place, int *ended)
 {
     *ended = 0;
     if (place >= 8 * len)
         return 0;
     if (bits(file, place, 1)) {
-        for (size_t p = place; p < 8 * len && WRONG(rest_looked_at); p++)
+        for (uint64_t p = place; p < 8 * len && WRONG(rest_looked_at); p++)
             if (!bits(file, p, 1))
                 return 17;
         return 0;
     }
     *ended = 1;
-    for (size_t p = place; p < 8 * len; p++)
+    for (uint64_t p = place; p < 8 * len; p++)
         if ((p / 8 != place / 8 && !WRONG(further_byte)) || (p / 8 == place / 8 && bits(file, p, 1) && !WRONG(bits_after_mark)))
             return 18;
     return 0;
 }
 
-static uint32_t take_header(const uint8_t *file, size_t len, struct reading *r)
+static uint32_t take_header(const uint8_t *file, uint64_t len, struct reading *r)
 {
     if (len < 2)
         return 14;
@@ -150,7 +150,7 @@ static uint32_t take_header(const uint8_t *file, size_t len, struct reading *r)
     return bad_version ? 15 : bad_header ? 16 : 0;
 }
 
-uint32_t take_file(const uint8_t *file, size_t len, struct table *table)
+uint32_t take_file(const uint8_t *file, uint64_t len, struct table *table)
 {
     struct reading r = {.table = table};
     int ended = 0;
@@ -160,7 +160,7 @@ uint32_t take_file(const uint8_t *file, size_t len, struct table *table)
     uint32_t refusal = take_header(file, len, &r);
     if (refusal)
         return refusal;
-    size_t place = take_records(&r, file, len);
+    uint64_t place = take_records(&r, file, len);
     if (place == 0)
         return 17;
     refusal = take_end(file, len, place, &ended);

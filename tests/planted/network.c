@@ -1,7 +1,7 @@
 /* The stand-in's networks: as bytes and as a list, their refusals in order. */
 #include "standin.h"
 
-static unsigned half(const uint8_t *bytes, size_t place)
+static unsigned half(const uint8_t *bytes, uint64_t place)
 {
     return bytes[place / 2] >> (place % 2 ? 0 : 4) & 15;
 }
@@ -46,10 +46,10 @@ static uint32_t check_arcs(const struct net *net)
 
 static int padding_is_wrong(const uint8_t *bytes, const struct net *net)
 {
-    return net->arcs % 2 == 1 && half(bytes, 6 + 3 * (size_t)net->arcs) != 0 && !WRONG(padding_not_read);
+    return net->arcs % 2 == 1 && half(bytes, 6 + 3 * (uint64_t)net->arcs) != 0 && !WRONG(padding_not_read);
 }
 
-static uint32_t check_header(const uint8_t *bytes, size_t len, const struct net *net)
+static uint32_t check_header(const uint8_t *bytes, uint64_t len, const struct net *net)
 {
     int too_many = net->arcs > (WRONG(arcs_up_to_255) ? 255 : 240);
     int long_enough = WRONG(further_network_byte) ? len >= network_size(net) : len == network_size(net);
@@ -66,7 +66,7 @@ static uint32_t check_header(const uint8_t *bytes, size_t len, const struct net 
     return long_enough ? 0 : 1;
 }
 
-uint32_t take_network(const uint8_t *bytes, size_t len, struct net *net)
+uint32_t take_network(const uint8_t *bytes, uint64_t len, struct net *net)
 {
     if (len < 3 || WRONG(refuses_everything))
         return 1;
@@ -79,7 +79,7 @@ uint32_t take_network(const uint8_t *bytes, size_t len, struct net *net)
     if (WRONG(padding_before_arcs) && padding_is_wrong(bytes, net))
         return 9;
     for (unsigned k = 0; k < net->arcs; k++) {
-        size_t place = 6 + 3 * (size_t)k;
+        uint64_t place = 6 + 3 * (uint64_t)k;
         net->arc[k].tail = half(bytes, place) + 1;
         net->arc[k].head = half(bytes, place + 1) + 1;
         net->arc[k].length = half(bytes, place + 2);
@@ -88,7 +88,7 @@ uint32_t take_network(const uint8_t *bytes, size_t len, struct net *net)
     return refusal ? refusal : padding_is_wrong(bytes, net) ? 9 : 0;
 }
 
-uint32_t take_list(uint8_t n, uint8_t lmax, const zaq_arc *arcs, size_t count, struct net *net)
+uint32_t take_list(uint8_t n, uint8_t lmax, const zaq_arc *arcs, uint64_t count, struct net *net)
 {
     int bad_n = n < 1 || n > (WRONG(seventeen_nodes) ? 17 : 16);
     if (WRONG(lmax_low_bits))
@@ -114,12 +114,12 @@ uint32_t take_list(uint8_t n, uint8_t lmax, const zaq_arc *arcs, size_t count, s
     return check_arcs(net);
 }
 
-size_t network_size(const struct net *net)
+uint64_t network_size(const struct net *net)
 {
-    return 3 + (12 * (size_t)net->arcs + 7) / 8;
+    return 3 + (12 * (uint64_t)net->arcs + 7) / 8;
 }
 
-static void put_half(uint8_t *bytes, size_t place, unsigned value)
+static void put_half(uint8_t *bytes, uint64_t place, unsigned value)
 {
     unsigned shift = place % 2 ? 0 : 4;
     bytes[place / 2] = (uint8_t)((bytes[place / 2] & ~(15u << shift)) | (value & 15) << shift);
@@ -128,10 +128,10 @@ static void put_half(uint8_t *bytes, size_t place, unsigned value)
 void put_network(const struct net *net, uint8_t *room)
 {
     const unsigned header[] = {1, net->n - 1, net->lmax, 0};
-    for (size_t k = 0; k < 4; k++)
+    for (uint64_t k = 0; k < 4; k++)
         put_half(room, k, header[k]);
     room[2] = (uint8_t)net->arcs;
-    size_t place = 6;
+    uint64_t place = 6;
     for (unsigned k = 0; k < net->arcs; k++) {
         unsigned tail = net->arc[k].tail - 1, head = net->arc[k].head - 1;
         put_half(room, place++, WRONG(pack_ends_swapped) ? head : tail);

@@ -158,14 +158,14 @@ static unsigned step(struct run *run, unsigned byte)
     return deliver(run, byte - first) ? 0 : 1;
 }
 
-void run_steps(struct run *run, const uint8_t *steps, size_t len)
+void run_steps(struct run *run, const uint8_t *steps, uint64_t len)
 {
     static struct run last;
     if (WRONG(state_kept) && last.net.n == run->net.n && last.net.arcs == run->net.arcs && last.net.lmax == run->net.lmax)
         *run = last;
     volatile uint8_t beyond = WRONG(reads_past_steps) ? steps[len] : 0;
     (void)beyond;
-    for (size_t k = 0; k < len; k++)
+    for (uint64_t k = 0; k < len; k++)
         run->counts[step(run, steps[k])]++;
     if (WRONG(state_kept))
         last = *run;

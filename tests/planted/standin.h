@@ -15,9 +15,9 @@ struct net {
 };
 
 /* ---- network.c: each gives the refusal */
-uint32_t take_network(const uint8_t *bytes, size_t len, struct net *net);
-uint32_t take_list(uint8_t n, uint8_t lmax, const zaq_arc *arcs, size_t count, struct net *net);
-size_t network_size(const struct net *net);
+uint32_t take_network(const uint8_t *bytes, uint64_t len, struct net *net);
+uint32_t take_list(uint8_t n, uint8_t lmax, const zaq_arc *arcs, uint64_t count, struct net *net);
+uint64_t network_size(const struct net *net);
 void put_network(const struct net *net, uint8_t *room);
 
 /* ---- run.c */
@@ -37,18 +37,18 @@ struct run {
     uint64_t counts[3]; /* taken, idle, unknown */
 };
 
-void run_steps(struct run *run, const uint8_t *steps, size_t len);
+void run_steps(struct run *run, const uint8_t *steps, uint64_t len);
 unsigned stopped_nodes(const struct run *run);
 /* The entry as an answer. */
 uint32_t entry_of(const struct run *run, unsigned node, unsigned target);
 
 /* ---- file.c */
-size_t file_size(const struct node *node);
+uint64_t file_size(const struct node *node);
 void put_file(const struct run *run, unsigned node, uint8_t *room);
 /* What a file says: entries as answers, by target; the refusal, 14 to 18, is returned. */
 struct table {
     unsigned n, own;
     uint32_t entry[NODES];
 };
-uint32_t take_file(const uint8_t *file, size_t len, struct table *table);
+uint32_t take_file(const uint8_t *file, uint64_t len, struct table *table);
 #endif
