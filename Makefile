@@ -1,7 +1,7 @@
 # Two commands: `make demo` shows the library at work, `make test` is the whole gate. `make bench` times it against plain C,
 # `make pictures` draws the sample house, `make check-long` has other people's programs look at the method and at the library's answers, and
-# shows that the outside tests notice planted mistakes.
-.PHONY: demo test bench pictures check-long clean
+# shows that the outside tests notice planted mistakes. `make lib TARGET=..` makes the library for an ARM chip, and `make check-arm` tries it.
+.PHONY: demo test lib bench pictures check-long check-arm clean
 
 demo:
 	@echo "Proving the library (some minutes the first time) .."
@@ -15,6 +15,14 @@ demo:
 test:
 	bash .ci/run
 
+# TARGET: one that tools/lib_for.sh names; none: x86-64
+lib:
+ifneq ($(TARGET),)
+	bash tools/lib_for.sh '$(TARGET)'
+else
+	bash tools/library.sh
+endif
+
 bench:
 	bash bench/run.sh
 
@@ -23,6 +31,9 @@ pictures:
 
 check-long:
 	bash tests/long/run.sh
+
+check-arm:
+	bash tests/arm/run.sh
 
 clean:
 	rm -rf target

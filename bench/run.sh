@@ -1,11 +1,13 @@
 #!/usr/bin/env bash
-# Builds the static library and every benchmark of this folder, and runs them one after the other: one table.
-# usage: run.sh    ZAQ_LIBRARY=file.a: measures that library instead of building one; CC compiles for its processor
+# Builds the static library and every benchmark of this folder, or those named, and runs them one after the other: one table.
+# usage: run.sh [check|run|write|read|stack ..]
+# ZAQ_LIBRARY=file.a: measures that library instead of building one; CC compiles for its processor
+# ZAQ_TARGET=TARGET: measures the library for a target of tools/lib_for.sh
 set -eu
 cd "$(dirname "$0")/.."
 . tools/host.sh
 library=$(bash tools/library.sh)
-out=target/bench
+out=$built/bench
 mkdir -p "$out"
 compile="$CC -std=c99 -Wall -Wextra -Wpedantic -Werror"
 
@@ -22,7 +24,7 @@ for source in reference reference_run in_header; do $compile -O2 -c "tests/outsi
 
 echo "the library against plain C, $("$CC" --version | head -n 1); load when it began: $(cut -d ' ' -f 1 /proc/loadavg)"
 echo "a ratio is the middle of 101 rounds, the middle half of them in brackets"
-programs='check run write read stack'
+programs=${*:-check run write read stack}
 if [ "$emulated" = yes ] && [ -z "${ZAQ_LIBRARY:-}" ]; then
     echo 'the programs are emulated here: their times say nothing, and only the stack is measured'
     programs=stack

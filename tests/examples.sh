@@ -3,7 +3,7 @@
 # document 01's network Q, P4 and P7 to P9. Then once more under valgrind or, where there is none, with the compiler's sanitizers.
 . "$(dirname "$0")/verdict.sh"
 
-folder=target/examples
+folder=$built/examples
 mkdir -p "$folder"
 rm -rf "${folder:?}"/*
 library=$(bash tools/library.sh)
