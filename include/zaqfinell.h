@@ -18,6 +18,8 @@
 #include <stddef.h>
 #include <stdint.h>
 
+#define ZAQ_VERSION "0.1.0"
+
 #ifdef __cplusplus
 extern "C" {
 #endif
