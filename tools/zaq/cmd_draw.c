@@ -1,0 +1,54 @@
+/* zaq draw: a house as a picture, with what one of its devices knows. */
+#include "command.h"
+#include "draw.h"
+#include "run.h"
+#include <string.h>
+
+/* A node's finished table. */
+static int table_of_node(const char *word, const struct house *house, struct table *table)
+{
+    struct outcome finished;
+    int status = read_node(word, house, &table->own);
+    if (status == DONE)
+        status = finish(house, &finished);
+    if (status == DONE)
+        memcpy(table->entries, table_of(house, &finished, table->own), 2 * house->n * sizeof *table->entries);
+    return status;
+}
+
+/* What a table file says, if it is of this house. */
+static int table_of_file(const char *path, const struct house *house, struct table *table)
+{
+    struct outcome finished;
+    struct table_file file;
+    char reason[REASON_ROOM];
+    int status = read_table_file(path, &file);
+    if (status == DONE && file.refusal)
+        status = say_refused(input_name(path), file.refusal);
+    if (status == DONE)
+        status = finish(house, &finished);
+    if (status == DONE && is_of_another(&file, house, &finished, reason))
+        status = say_of(REFUSED, input_name(path), "not of this house: %s", reason);
+    *table = file.table;
+    return status;
+}
+
+int draw_command(const struct call *call)
+{
+    const char *word = call->count > 1 ? call->words[1] : NULL;
+    struct house house;
+    struct table table;
+    struct output out;
+    uint64_t number;
+    int status = load_house(call->words[0], form_of(call), &house);
+    if (status == DONE && word)
+        status = read_number(word, &number) ? table_of_node(word, &house, &table) : table_of_file(word, &house, &table);
+    if (status == DONE)
+        status = open_output(&out, call->out);
+    if (status)
+        return status;
+    /* a failed write is told where the output is closed */
+    if (draw_house(out.file, &house, word ? &table : NULL) && !ferror(out.file))
+        status = say(FAILED, "the picture could not be drawn");
+    return close_output(&out, status);
+}

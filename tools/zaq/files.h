@@ -1,0 +1,36 @@
+/* Files in and out. Each call gives 0, or a status after one line on standard error. */
+#ifndef ZAQ_FILES_H
+#define ZAQ_FILES_H
+#include "say.h"
+
+/* Bytes on the heap; free(at) after use. */
+struct bytes {
+    uint8_t *at;
+    size_t len, room;
+};
+
+/* How a message names an input: `-` is standard input. */
+const char *input_name(const char *path);
+/* A whole file, or standard input for `-`. A longer one than `most` bytes is not taken. */
+int read_bytes(const char *path, size_t most, struct bytes *bytes);
+/* Room for `more` bytes after those that are there; 0 if there is no memory, told. */
+int has_room(struct bytes *bytes, size_t more);
+
+/* Where a command writes to. A file gets its name only when it is whole and on the disk; until then the old one stays as it was. */
+struct output {
+    FILE *file;
+    const char *path; /* as it was given */
+    char *place;      /* what is renamed to, links followed; NULL where nothing is renamed */
+    char *temporary;
+};
+
+/* No path, or `-`, is standard output. */
+int open_output(struct output *out, const char *path);
+/* Ends the output: keeps it if the status is 0 and everything was written, else removes what there is of it. Gives the status. */
+int close_output(struct output *out, int status);
+/* Makes sure that everything written to standard output has arrived. */
+int close_standard_output(int status);
+/* Before anything is opened: a closed standard file must not lend its number to another one, and a write that fails must come back as an
+ * error, not end the program. */
+void guard_standard_files(void);
+#endif
