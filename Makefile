@@ -1,7 +1,7 @@
 # Two commands: `make demo` shows the library at work, `make test` is the whole gate. `make bench` times it against plain C,
 # `make pictures` draws the sample house, `make check-long` has other people's programs look at the method and at the library's answers, and
 # shows that the outside tests notice planted mistakes. `make lib TARGET=..` makes the library for an ARM chip, and `make check-arm` tries it.
-.PHONY: demo test lib bench pictures check-long check-arm clean
+.PHONY: demo tool test lib bench pictures check-long check-arm clean
 
 demo:
 	@echo "Proving the library (some minutes the first time) .."
@@ -11,6 +11,10 @@ demo:
 	@echo
 	@echo "What House table makes of it (node, target, distance, first hop):"
 	@bash -c '. tools/host.sh; bash tools/sample_house.sh | "$$(program house_table)"'
+
+# target/bin/zaq; what is proved is not proved again
+tool:
+	bash tools/build.sh zaq
 
 test:
 	bash .ci/run

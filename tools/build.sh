@@ -1,23 +1,25 @@
 #!/usr/bin/env bash
-# Builds the tools that are C programs into target/tools, linked with the library: build.sh [TOOL..]
+# Builds the tools that are C programs, linked with the library: build.sh [zaq|draw_house ..], zaq if none is named.
+# A tool that is newer than all that it is made of is left as it is, unless ZAQ_LIBRARY names another library (tools/library.sh).
 set -eu
 cd "$(dirname "$0")/.."
 . tools/host.sh
 library=$(bash tools/library.sh)
-mkdir -p target/tools
 
-build() { # build NAME SOURCE..
-    local name=$1
-    shift
-    "$CC" -std=c99 -Wall -Wextra -Wpedantic -Werror -O2 -Iinclude "$@" "$library" -lm -o "target/tools/$name"
+build() { # build PROGRAM FOLDER
+    if [ -z "${ZAQ_LIBRARY:-}" ] && [ -x "$1" ] && [ -z "$(find "$2" include "$library" tools/build.sh -newer "$1" -print -quit)" ]; then
+        return
+    fi
+    mkdir -p "$(dirname "$1")"
+    "$CC" -std=c99 -Wall -Wextra -Wpedantic -Werror -O2 -Iinclude "$2"/*.c "$library" -lm -o "$1"
 }
 
-for tool in "${@:-draw_house}"; do
+for tool in "${@:-zaq}"; do
     case $tool in
-    draw_house) build draw_house tools/draw_house/*.c ;;
-    node_file) build node_file tools/node_file.c ;;
+    zaq) build target/bin/zaq tools/zaq ;;
+    draw_house) build target/tools/draw_house tools/draw_house ;;
     *)
-        echo "usage: $0 [draw_house|node_file ..]" >&2
+        echo "usage: $0 [zaq|draw_house ..]" >&2
         exit 2
         ;;
     esac
