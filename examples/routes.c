@@ -6,7 +6,7 @@ enum { DEVICES = 5, LMAX = 7, MOST_STEPS = 4096 };
 
 static const char *const names[] = {"", "television", "soundbar", "repeater", "kitchen", "attic"};
 
-/* from, to, length; two ways to the kitchen are equally long, and nobody leads to the attic */
+/* from, to, length; two ways to the kitchen are equally long, and no arc leads to the attic */
 static const zaq_arc arcs[] = {{1, 2, 2}, {2, 1, 2}, {1, 3, 1}, {3, 1, 7}, {2, 4, 3}, {3, 4, 4}, {4, 2, 1}, {5, 1, 1}, {5, 4, 2}};
 enum { ARCS = sizeof arcs / sizeof *arcs };
 

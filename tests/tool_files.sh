@@ -1,0 +1,128 @@
+# Files in and out: what is written stands whole or not at all, and nothing that fails is silent. Sourced by tests/tool.sh.
+
+fails() { # fails WORDS: the last call, whose output went elsewhere, failed with these words and left no temporary file
+    verdict "status $status, not 2, where '$1' is wanted" test "$status" = 2
+    verdict "'$(cat "$work/err")' is said, not '$1'" grep -qF -- "$1" "$work/err"
+    verdict "a message without 'zaq: '" only_messages
+    verdict "a temporary file is left" no_leftovers "$work"
+}
+
+standard_output() {
+    local command
+    full_text > "$work/full.txt"
+    for command in 'check examples/house.txt' 'check --json examples/house.txt' 'routes examples/house.txt' "routes $work/full.txt" \
+        'run examples/house.txt' 'run examples/house.txt --every 9' "show $work/p4" 'pack examples/house.txt -o -' "unpack $work/q" \
+        "write $work/q 1 -o -" "draw $work/q" 'help' '--version'; do
+        status=0
+        "${zaq[@]}" $command > /dev/full 2> "$work/err" || status=$?
+        fails 'zaq: standard output: No space left on device'
+    done
+    status=0
+    "${zaq[@]}" check examples/house.txt 2> "$work/err" >&- || status=$?
+    fails 'zaq: standard output: Bad file descriptor'
+    # a file opened while standard output is closed must not get what was meant for it
+    status=0
+    "${zaq[@]}" pack examples/house.txt -o "$work/net" 2> "$work/err" >&- || status=$?
+    verdict 'with standard output closed, a file can be written' test "$status$(cat "$work/err")" = 0
+    verdict 'with standard output closed, the file is right' cmp -s "$work/net" <("${zaq[@]}" pack examples/house.txt -o -)
+    { sleep 0.2; "${zaq[@]}" routes examples/house.txt 2> "$work/err"; echo $? > "$work/status"; } | :
+    status=$(cat "$work/status")
+    fails 'zaq: standard output: Broken pipe'
+}
+
+standard_input() {
+    status=0
+    "${zaq[@]}" check - 2> "$work/err" > "$work/out" <&- || status=$?
+    fails 'zaq: standard input: Bad file descriptor'
+    bad 2 'standard input (-) can be read once only' run - - < "$work/two"
+    bad 2 'standard input (-) can be read once only' show - --house - < "$work/two"
+    bad 1 "standard input: refused 1: network bytes under 3" check --net - < <(printf 'ab')
+}
+
+unreadable() {
+    local command
+    for command in 'check' 'routes' 'run' "run $work/two" 'unpack' 'show' "show $work/p4 --house" "draw $work/q"; do
+        bad 2 "$work: Is a directory" $command "$work"
+        bad 2 "$work/nothing: No such file or directory" $command "$work/nothing"
+        bad 2 "'': No such file or directory" $command ''
+    done 2>&1
+    bad 2 "$work: Is a directory" pack "$work" -o -
+    bad 2 "$work/p4/x: Not a directory" check "$work/p4/x"
+    head -c 1048577 /dev/zero | tr '\0' ' ' > "$work/long"
+    bad 2 "$work/long: too long: over 1048576 bytes" check "$work/long"
+    bad 2 "$work/long: too long: over 4096 bytes" show "$work/long"
+    # a name that would write to the terminal, or begin a line of its own
+    bad 2 "$work/a\\x0azaq\\x1b\\xff: No such file or directory" check "$work/a"$'\nzaq\x1b\xff'
+}
+
+# old FILE.. is as it was, and nothing else is there
+written() {
+    local old=$work/old
+    rm -rf "$old"
+    mkdir "$old"
+    printf 'as it was' > "$old/file"
+    chmod 640 "$old/file"
+    ask write "$work/q" 1 -o "$old/file"
+    verdict 'an old file is replaced' cmp -s "$old/file" "$work/p4"
+    verdict 'an old file keeps its rights' test "$(stat -c %a "$old/file")" = 640
+    (umask 027 && "${zaq[@]}" write "$work/q" 1 -o "$old/new")
+    verdict 'a new file has the rights of the umask' test "$(stat -c %a "$old/new")" = 640
+    ln -s file "$old/link"
+    ask pack examples/house.txt -o "$old/link"
+    verdict 'a link stays a link' test -L "$old/link"
+    verdict "a link's file is written" test "$(digits "$old/file")" = "$("${zaq[@]}" pack examples/house.txt -o - | od -An -v -tx1 | tr -d ' \n')"
+    ln -s nowhere "$old/loose"
+    ask pack examples/house.txt -o "$old/loose"
+    fails "$old/loose: No such file or directory"
+    mkfifo "$old/pipe"
+    cat "$old/pipe" > "$work/from_pipe" &
+    ask write "$work/q" 1 -o "$old/pipe"
+    wait $!
+    verdict 'a pipe stays a pipe' test -p "$old/pipe"
+    verdict 'what is written comes out of the pipe' cmp -s "$work/from_pipe" "$work/p4"
+    verdict "only what was asked for is there: $(ls -A "$old" | xargs)" test "$(ls -A "$old" | sort | xargs)" = 'file link loose new pipe'
+}
+
+not_written() {
+    local old=$work/old command
+    rm -rf "$old"
+    mkdir "$old"
+    printf 'as it was' > "$old/file"
+    for command in "write $work/q 1" 'pack examples/house.txt' "unpack $work/q" "draw $work/q"; do
+        ask $command -o "$old"
+        fails "$old: Is a directory"
+        ask $command -o "$old/no/file"
+        fails "$old/no/file: No such file or directory"
+        ask $command -o "$old/file/file"
+        fails "$old/file/file: Not a directory"
+        ask $command -o ''
+        fails "'': No such file or directory"
+        ask $command -o /dev/full
+        fails '/dev/full: No space left on device'
+        verdict '/dev/full is still a device' test -c /dev/full
+        # a limit of no bytes stands for a disk that is full; messages go through a pipe, which has no such limit
+        (
+            ulimit -f 0
+            "${zaq[@]}" $command -o "$old/file" 2>&1
+            echo "status $?"
+        ) | cat > "$work/said"
+        status=$(sed -n 's/^status //p' "$work/said")
+        grep -v '^status ' "$work/said" > "$work/err"
+        fails "$old/file: File too large"
+        verdict 'the old file is as it was' test "$(cat "$old/file")" = 'as it was'
+    done
+    bad 1 'found the end of the line' pack <(printf 'lmax') -o "$old/file"
+    bad 1 'refused 12: file wanted of a node not started' write "$work/q" /dev/null 1 -o "$old/file"
+    verdict 'the old file is as it was after a refusal' test "$(cat "$old/file")" = 'as it was'
+    verdict "only the old file is there: $(ls -A "$old" | xargs)" test "$(ls -A "$old")" = file
+    (cd "$old" && "${zaq[@]/#target/$OLDPWD/target}" write "$OLDPWD/$work/q" 1 -o plain)
+    verdict 'a name without a folder' cmp -s "$old/plain" "$work/p4"
+}
+
+test_files() {
+    standard_output
+    standard_input
+    unreadable
+    written
+    not_written
+}
