@@ -46,7 +46,7 @@ transcripts() { # transcripts FILE
         [ -e "$script" ] || return
         (cd "$scratch" && results=$OLDPWD/$folder PATH=$OLDPWD/$built/bin:$PATH bash "$OLDPWD/$script" < /dev/null)
         for wanted in "${script%.sh}".*.wanted; do
-            verdict "$1: in transcript $(basename "$script" .sh), command $(basename "$wanted" .wanted | cut -d. -f2) prints something else" \
+            verdict "$1: command $(basename "$wanted" .wanted), as transcript.command, prints something else" \
                 diff "$wanted" "${wanted%.wanted}.out"
             commands=$((commands + 1))
         done

@@ -8,6 +8,18 @@ work=target/tool_test
 topics='house commands files faults json random'
 for topic in $topics; do . "tests/tool_$topic.sh"; done
 
+# document 01's network Q, its files P4 to P8, P10 and P11, and the network and steps of the run that docs/FORMATS.md works out
+examples='q 124004011121022204
+p4 1024888c8440
+p5 1024888c847f
+p6 1024888f
+p7 1024888c84
+p8 1024
+p10 1124910c0900
+p11 100100
+two 1110010110
+steps 0001101010'
+
 ask() { # ask ARGUMENT..: runs zaq; $status, $work/out and $work/err have what came of it
     status=0
     "${zaq[@]}" "$@" > "$work/out" 2> "$work/err" || status=$?
@@ -44,20 +56,10 @@ no_leftovers() { # no_leftovers FOLDER: no temporary file is left there
 }
 
 try_all() {
-    local topic began=$SECONDS
+    local topic name digits began=$SECONDS
     rm -rf "$work"
     mkdir -p "$work"
-    # document 01's network Q, its files P4 to P8, P10 and P11, and the worked run of docs/FORMATS.md
-    bytes 124004011121022204 > "$work/q"
-    bytes 1024888c8440 > "$work/p4"
-    bytes 1024888c847f > "$work/p5"
-    bytes 1024888f > "$work/p6"
-    bytes 1024888c84 > "$work/p7"
-    bytes 1024 > "$work/p8"
-    bytes 1124910c0900 > "$work/p10"
-    bytes 100100 > "$work/p11"
-    bytes 1110010110 > "$work/two"
-    bytes 0001101010 > "$work/steps"
+    while read -r name digits; do bytes "$digits" > "$work/$name"; done <<< "$examples"
     for topic in $topics; do "test_$topic"; done
     echo "with ${zaq[*]}: $((SECONDS - began)) s"
 }

@@ -1,5 +1,5 @@
-# What each command says of good input, and of what the library refuses. Sourced by tests/tool.sh. Answers come from docs/FORMATS.md (Q, P1 to
-# P12, the worked run) and, for the sample house, from adding up its lengths by hand.
+# What each command says of good input, and of what the library refuses. Sourced by tests/tool.sh. Answers come from docs/FORMATS.md (Q, P1
+# to P12, the worked run) and, for the sample house, from adding up its lengths by hand.
 
 checks() {
     says 'examples/house.txt is accepted: 6 devices, 13 arcs, LMAX 9' check examples/house.txt
@@ -132,23 +132,25 @@ table_files() {
     verdict 'a refused write leaves the old file' test "$(digits "$work/table")" = 1024888f
 }
 
-shown() { # shown FILE HEADING ENTRY..: what is said of a file of Q; a table is named by node 1 to 3
-    local file=$1 heading=$2
-    shift 2
+shown() { # shown FILE NODE HOUSE STATE ENTRY..: what is said of a file
+    local file=$1 heading="node $2, in a house of $3" state=$4
+    shift 4
     says "$work/$file: the table of $heading
+  $state
 $(printf '  to node %s\n' "$@")" show "$work/$file"
 }
 
 shows() {
-    local of='in a house of 3 devices with LMAX 4' cut='no end mark: the file was cut, or its device had not stopped when it was written'
-    shown p4 "node 1, $of; whole, the end mark is there" '1: itself' '2: distance 1, first hop node 2' '3: distance 2, first hop node 2'
-    shown p5 "node 1, $of; no end mark, but no target is unknown: nothing is missing" \
+    local q='3 devices with LMAX 4' whole='whole: the end mark is there'
+    local cut='no end mark: the file was cut, or its device had not stopped when it was written'
+    shown p4 1 "$q" "$whole" '1: itself' '2: distance 1, first hop node 2' '3: distance 2, first hop node 2'
+    shown p5 1 "$q" 'no end mark, but no target is unknown: nothing is missing' \
         '1: itself' '2: distance 1, first hop node 2' '3: distance 2, first hop node 2'
-    shown p6 "node 1, $of; $cut" '1: itself' '2: distance 1, first hop node 2' '3: unknown'
-    shown p7 "node 1, $of; $cut" '1: itself' '2: distance 1, first hop node 2' '3: unknown'
-    shown p8 "node 1, $of; $cut" '1: itself' '2: unknown' '3: unknown'
-    shown p10 "node 2, $of; whole, the end mark is there" '1: distance 5, first hop node 3' '2: itself' '3: distance 1, first hop node 3'
-    shown p11 'node 1, in a house of 1 device with LMAX 1; whole, the end mark is there' '1: itself'
+    shown p6 1 "$q" "$cut" '1: itself' '2: distance 1, first hop node 2' '3: unknown'
+    shown p7 1 "$q" "$cut" '1: itself' '2: distance 1, first hop node 2' '3: unknown'
+    shown p8 1 "$q" "$cut" '1: itself' '2: unknown' '3: unknown'
+    shown p10 2 "$q" "$whole" '1: distance 5, first hop node 3' '2: itself' '3: distance 1, first hop node 3'
+    shown p11 1 '1 device with LMAX 1' "$whole" '1: itself'
     show_refused 14 10 'table file under 2 bytes'
     show_refused 14 '' 'table file under 2 bytes'
     show_refused 15 202488 'table file version not 1'
@@ -175,7 +177,8 @@ show_with_house() {
     local house=$work/q.txt
     printf 'lmax 4\ndevice 1 tv\ndevice 2\ndevice 3 bar\nlink 1 -> 2 length 1\nlink 2 -> 3 length 1\nlink 1 -> 3 length 2\n' > "$house"
     echo 'link 3 -> 1 length 4' >> "$house"
-    says "$work/p4: the table of 1 (tv), in a house of 3 devices with LMAX 4; whole, the end mark is there
+    says "$work/p4: the table of 1 (tv), in a house of 3 devices with LMAX 4
+  whole: the end mark is there
   to 1 (tv): itself
   to node 2: distance 1, first hop node 2
   to 3 (bar): distance 2, first hop node 2" show "$work/p4" --house "$house"

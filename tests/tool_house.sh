@@ -18,12 +18,11 @@ mistaken() { # mistaken TEXT MESSAGE..: these are all the messages, each LINE:CO
 
 good_texts() {
     # docs/FORMATS.md has the bytes of network Q
-    local q=124004011121022204 name
-    packs $q 'lmax 4\ndevice 1\ndevice 2\ndevice 3\nlink 1 -> 2 length 1\nlink 2 -> 3 length 1\nlink 1 -> 3 length 2\nlink 3 -> 1 length 4\n' Q
-    packs $q 'link 1 -> 2 length 1\nlink 2 -> 3 length 1\ndevice 3 c\nlink 1 -> 3 length 2\nlmax 4\ndevice 1 a\nlink 3 -> 1 length 4\ndevice 2' \
-        'Q, its lines in another order, the last one without an end'
-    packs $q '\xef\xbb\xbflmax 4 # LMAX\r\n\r\n# Q\r\ndevice 1 a # b\r\ndevice 2\r\ndevice 3\r\nlink 1->2 length 1#\r\nlink 2 -> 3 length 1\r\n'\
-'link 1 -> 3 length 2\r\nlink 3 -> 1 length 4\r\n' 'Q with a byte order mark, CRLF and comments'
+    local q=124004011121022204 name arcs='link 1 -> 2 length 1\nlink 2 -> 3 length 1\nlink 1 -> 3 length 2\nlink 3 -> 1 length 4'
+    packs $q "lmax 4\ndevice 1\ndevice 2\ndevice 3\n$arcs\n" Q
+    packs $q "device 3 c\n$arcs\nlmax 4\ndevice 1 a\ndevice 2" 'Q, its lines in another order, the last one without an end'
+    packs $q "\xef\xbb\xbflmax 4 # LMAX\r\n\r\n# Q\r\ndevice 1 a # b\r\ndevice 2\r\ndevice 3\r\n${arcs//\\n/#\\r\\n}\r\n" \
+        'Q with a byte order mark, CRLF and comments'
     packs $q '\t lmax\t4 \n device   1\t\n\tdevice 2 \t x \t\ndevice\t3\n  link\t1\t->  2 length\t1\t\nlink 2 -> 3   length 001\n'\
 'link 1-> 3 length 2\nlink 3 ->1 length 4   # \xff\n' 'Q with tabs and blanks'
     # a two-way link is two arcs, first as written: arcs 2 1 3 and 1 2 3
@@ -70,7 +69,8 @@ mistakes_of_a_line() {
         '4:6: refused 5: a tail or head outside 1 to n (arc 1, from 3 to 2, length 1), expected the number of a device, 1 to 2'
     mistaken "${two}link 1 -> 0 length 1" \
         '4:11: refused 5: a tail or head outside 1 to n (arc 1, from 1 to 0, length 1), expected the number of a device, 1 to 2'
-    mistaken "${two}link 2 <-> 2 length 1" '4:12: refused 6: an arc from a node to itself (arc 1, from 2 to 2, length 1), expected two devices'
+    mistaken "${two}link 2 <-> 2 length 1" \
+        '4:12: refused 6: an arc from a node to itself (arc 1, from 2 to 2, length 1), expected two devices'
     mistaken "${two}link 1 <-> 2 length 5" \
         '4:21: refused 7: an arc of length 0 or over LMAX (arc 1, from 1 to 2, length 5), expected a length from 1 to 4'
     mistaken "${two}link 1 -> 2 length 0" \

@@ -1,19 +1,6 @@
 /* zaq pack, zaq unpack: a house text and its network bytes. */
 #include "command.h"
 
-int pack_command(const struct call *call)
-{
-    struct house house;
-    struct output out;
-    int status = load_house(call->words[0], TEXT, &house);
-    if (status == DONE)
-        status = open_output(&out, call->out);
-    if (status)
-        return status;
-    fwrite(house.net, 1, house.net_len, out.file);
-    return close_output(&out, DONE);
-}
-
 /* Whether the arc after this one is its way back, so that both are one line, in the order in which that line is packed. */
 static int is_both_ways(const struct house *house, size_t k)
 {
@@ -35,15 +22,31 @@ static void put_house(FILE *out, const struct house *house)
     }
 }
 
-int unpack_command(const struct call *call)
+static void put_network(FILE *out, const struct house *house)
+{
+    fwrite(house->net, 1, house->net_len, out);
+}
+
+/* A house of one form, written in the other. */
+static int convert(const struct call *call, enum form form, void (*put)(FILE *, const struct house *))
 {
     struct house house;
     struct output out;
-    int status = load_house(call->words[0], NETWORK, &house);
+    int status = load_house(call->words[0], form, &house);
     if (status == DONE)
         status = open_output(&out, call->out);
     if (status)
         return status;
-    put_house(out.file, &house);
+    put(out.file, &house);
     return close_output(&out, DONE);
+}
+
+int pack_command(const struct call *call)
+{
+    return convert(call, TEXT, put_network);
+}
+
+int unpack_command(const struct call *call)
+{
+    return convert(call, NETWORK, put_house);
 }

@@ -17,13 +17,13 @@ static void tell_file(const struct showing *showing, const char *name, const str
     put_node(stdout, showing->house, file->table.own);
     fputs(", in a house of ", stdout);
     put_number(stdout, file->n, "device");
-    printf(" with LMAX %u; ", (unsigned)file->lmax);
+    printf(" with LMAX %u\n", (unsigned)file->lmax);
     if (file->end_mark)
-        puts("whole, the end mark is there");
+        puts("  whole: the end mark is there");
     else if (knows_all(file->table.entries, file->n))
-        puts("no end mark, but no target is unknown: nothing is missing");
+        puts("  no end mark, but no target is unknown: nothing is missing");
     else
-        puts("no end mark: the file was cut, or its device had not stopped when it was written");
+        puts("  no end mark: the file was cut, or its device had not stopped when it was written");
     for (uint32_t target = 1; target <= file->n; target++) {
         fputs("  to ", stdout);
         put_node(stdout, showing->house, target);

@@ -49,7 +49,7 @@ static int is_node(const struct house *house, uint8_t node)
 static void tell_refused(struct reading *reading, const struct line *line, const struct link *link, zaq_arc arc, uint32_t refusal)
 {
     const uint8_t *place = link->tail_place;
-    char expected[64] = "each arc once", number[16] = "";
+    char expected[64] = "each arc once", number[24] = "";
     if (refusal == ZAQ_WRONG_ARC_NODE) {
         snprintf(expected, sizeof expected, "the number of a device, 1 to %u", (unsigned)reading->house->n);
         if (is_node(reading->house, link->arc.tail))
