@@ -25,6 +25,9 @@ standard_output() {
     "${zaq[@]}" pack examples/house.txt -o "$work/net" 2> "$work/err" >&- || status=$?
     verdict 'with standard output closed, a file can be written' test "$status$(cat "$work/err")" = 0
     verdict 'with standard output closed, the file is right' cmp -s "$work/net" <("${zaq[@]}" pack examples/house.txt -o -)
+    status=0
+    "${zaq[@]}" check "$work/nothing" 2>&- || status=$?
+    verdict "with standard error closed, the status is $status, not 2" test "$status" = 2
     { sleep 0.2; "${zaq[@]}" routes examples/house.txt 2> "$work/err"; echo $? > "$work/status"; } | :
     status=$(cat "$work/status")
     fails 'zaq: standard output: Broken pipe'
@@ -74,7 +77,7 @@ written() {
     ask pack examples/house.txt -o "$old/loose"
     fails "$old/loose: No such file or directory"
     mkfifo "$old/pipe"
-    cat "$old/pipe" > "$work/from_pipe" &
+    timeout 20 cat "$old/pipe" > "$work/from_pipe" &
     ask write "$work/q" 1 -o "$old/pipe"
     wait $!
     verdict 'a pipe stays a pipe' test -p "$old/pipe"
@@ -82,8 +85,19 @@ written() {
     verdict "only what was asked for is there: $(ls -A "$old" | xargs)" test "$(ls -A "$old" | sort | xargs)" = 'file link loose new pipe'
 }
 
+full_device() { # a device that is always full; as root one of our own, since a wrong program could replace the machine's
+    rm -f "$work/full"
+    if [ "$(id -u)" != 0 ]; then
+        echo /dev/full
+    elif mknod "$work/full" c 1 7 2> /dev/null && (echo > "$work/full") 2>&1 | grep -q 'No space left'; then
+        echo "$work/full"
+    fi
+}
+
 not_written() {
-    local old=$work/old command
+    local old=$work/old full command
+    full=$(full_device)
+    [ -n "$full" ] || echo 'a full device for -o: not tried, none can be made here'
     rm -rf "$old"
     mkdir "$old"
     printf 'as it was' > "$old/file"
@@ -96,9 +110,11 @@ not_written() {
         fails "$old/file/file: Not a directory"
         ask $command -o ''
         fails "'': No such file or directory"
-        ask $command -o /dev/full
-        fails '/dev/full: No space left on device'
-        verdict '/dev/full is still a device' test -c /dev/full
+        if [ -n "$full" ]; then
+            ask $command -o "$full"
+            fails "$full: No space left on device"
+            verdict 'a device is still a device' test -c "$full"
+        fi
         # a limit of no bytes stands for a disk that is full; messages go through a pipe, which has no such limit
         (
             ulimit -f 0

@@ -47,8 +47,7 @@ int draw_command(const struct call *call)
         status = open_output(&out, call->out);
     if (status)
         return status;
-    /* a failed write is told where the output is closed */
-    if (draw_house(out.file, &house, word ? &table : NULL) && !ferror(out.file))
+    if (draw_house(out.file, &house, word ? &table : NULL))
         status = say(FAILED, "the picture could not be drawn");
     return close_output(&out, status);
 }

@@ -16,17 +16,21 @@ int read_bytes(const char *path, size_t most, struct bytes *bytes);
 /* Room for `more` bytes after those that are there; 0 if there is no memory, told. */
 int has_room(struct bytes *bytes, size_t more);
 
-/* Where a command writes to. A file gets its name only when it is whole and on the disk; until then the old one stays as it was. */
+/* Where a command writes to. What is written is kept in memory until the end, and then a file gets its name only when it is whole and on the
+ * disk; until then the old one stays as it was. */
 struct output {
-    FILE *file;
-    const char *path; /* as it was given */
-    char *place;      /* what is renamed to, links followed; NULL where nothing is renamed */
+    FILE *file; /* for the command to write to */
+    char *text;
+    size_t len;
+    int to; /* the descriptor that it goes to */
+    const char *path;
+    char *place; /* what is renamed to, links followed; NULL where nothing is renamed */
     char *temporary;
 };
 
 /* No path, or `-`, is standard output. */
 int open_output(struct output *out, const char *path);
-/* Ends the output: keeps it if the status is 0 and everything was written, else removes what there is of it. Gives the status. */
+/* Ends the output: writes it if the status is 0; if that fails, or the status is another, nothing is left of it. Gives the status. */
 int close_output(struct output *out, int status);
 /* Makes sure that everything written to standard output has arrived. */
 int close_standard_output(int status);

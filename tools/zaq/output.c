@@ -1,4 +1,4 @@
-#define _XOPEN_SOURCE 700 /* fsync, realpath */
+#define _XOPEN_SOURCE 700 /* open_memstream, fsync, realpath */
 #include "files.h"
 #include <errno.h>
 #include <fcntl.h>
@@ -23,8 +23,10 @@ static int make_temporary(struct output *out, const struct stat *old)
         made = open(out->temporary, O_WRONLY | O_CREAT | O_EXCL, 0666);
     }
     if (made >= 0 && old && fchmod(made, old->st_mode & 07777) != 0) {
+        int why = errno;
         close(made);
         unlink(out->temporary);
+        errno = why;
         made = -1;
     }
     return made;
@@ -37,80 +39,93 @@ static char *copy(const char *text)
 }
 
 /* Opens the temporary file for a place that is a file or nothing yet. */
-static FILE *open_beside(struct output *out, const struct stat *old)
+static int open_beside(struct output *out, const struct stat *old)
 {
     struct stat link;
     if (!old && lstat(out->path, &link) == 0) { /* renaming would replace a link to nothing, and not make what it names */
         errno = ENOENT;
-        return NULL;
+        return -1;
     }
     /* who may not write to the old file may not replace it */
     if (old && access(out->path, W_OK) != 0)
-        return NULL;
+        return -1;
     out->place = old ? realpath(out->path, NULL) : copy(out->path);
-    int made = out->place ? make_temporary(out, old) : -1;
-    FILE *file = made < 0 ? NULL : fdopen(made, "wb");
-    if (made >= 0 && !file) {
-        close(made);
-        unlink(out->temporary);
-    }
-    return file;
+    return out->place ? make_temporary(out, old) : -1;
 }
 
-static void forget(struct output *out)
+static int open_path(struct output *out, const char *path)
 {
+    struct stat old;
+    if (!path || strcmp(path, "-") == 0) {
+        out->path = "standard output";
+        return STDOUT_FILENO;
+    }
+    int there = stat(path, &old) == 0;
+    /* a device or a pipe is written to, not replaced; a folder is refused by the system */
+    return there && !S_ISREG(old.st_mode) ? open(path, O_WRONLY) : open_beside(out, there ? &old : NULL);
+}
+
+/* Frees what the output holds, and gives the status; errno is still that of `why`. */
+static int end(struct output *out, int status, int why)
+{
+    free(out->text);
     free(out->place);
     free(out->temporary);
-    *out = (struct output){NULL, out->path, NULL, NULL};
+    errno = why;
+    return why ? say_failed(out->path) : status;
 }
 
 int open_output(struct output *out, const char *path)
 {
-    struct stat old;
-    *out = (struct output){stdout, path, NULL, NULL};
-    if (!path || strcmp(path, "-") == 0)
-        return DONE;
-    int there = stat(path, &old) == 0;
-    /* a device or a pipe is written to, not replaced; a folder is refused by the system */
-    out->file = there && !S_ISREG(old.st_mode) ? fopen(path, "wb") : open_beside(out, there ? &old : NULL);
+    *out = (struct output){.path = path};
+    out->to = open_path(out, path);
+    if (out->to >= 0)
+        out->file = open_memstream(&out->text, &out->len);
     if (out->file)
         return DONE;
     int why = errno;
-    forget(out);
-    errno = why;
-    return say_failed(path);
+    if (out->to >= 0 && out->temporary)
+        unlink(out->temporary);
+    return end(out, FAILED, why);
 }
 
-/* Closes a file, on the disk first if that is wanted: 0, or why not everything that was written has arrived (errno). */
-static int close_file(FILE *file, int to_disk)
+/* 0, or why not everything is written (errno). */
+static int write_all(int to, const char *text, size_t len)
 {
-    /* an earlier write may have failed whose errno is gone */
-    int why = fflush(file) != 0 ? errno : ferror(file) ? EIO : 0;
-    if (!why && to_disk && fsync(fileno(file)) != 0)
-        why = errno;
-    if (fclose(file) != 0 && !why)
-        why = errno;
-    return why;
+    while (len > 0) {
+        ssize_t written = write(to, text, len);
+        if (written < 0 && errno != EINTR)
+            return errno;
+        if (written > 0) {
+            text += written;
+            len -= (size_t)written;
+        }
+    }
+    return 0;
 }
 
 int close_output(struct output *out, int status)
 {
-    if (out->file == stdout)
-        return status; /* close_standard_output looks after it */
-    int why = close_file(out->file, out->temporary != NULL);
+    int why = fclose(out->file) != 0 ? errno : 0;
+    if (!why && status == DONE)
+        why = write_all(out->to, out->text, out->len);
+    if (!why && out->temporary && fsync(out->to) != 0)
+        why = errno;
+    if (out->to != STDOUT_FILENO && close(out->to) != 0 && !why)
+        why = errno;
     if (!why && status == DONE && out->temporary && rename(out->temporary, out->place) != 0)
         why = errno;
     if (out->temporary && (why || status != DONE))
         unlink(out->temporary);
-    forget(out);
-    errno = why;
-    return why && status == DONE ? say_failed(out->path) : status;
+    return end(out, status, why);
 }
 
 int close_standard_output(int status)
 {
-    errno = close_file(stdout, 0);
-    return errno ? say_failed("standard output") : status;
+    int lost = ferror(stdout); /* an earlier write failed, and its errno may be gone */
+    if (fclose(stdout) != 0)
+        return say_failed("standard output");
+    return lost ? say_of(FAILED, "standard output", "not everything could be written") : status;
 }
 
 void guard_standard_files(void)
