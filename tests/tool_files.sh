@@ -37,8 +37,8 @@ standard_input() {
     status=0
     "${zaq[@]}" check - 2> "$work/err" > "$work/out" <&- || status=$?
     fails 'zaq: standard input: Bad file descriptor'
-    bad 2 'standard input (-) can be read once only' run - - < "$work/two"
-    bad 2 'standard input (-) can be read once only' show - --house - < "$work/two"
+    bad 2 'standard input (-) can be read only once' run - - < "$work/two"
+    bad 2 'standard input (-) can be read only once' show - --house - < "$work/two"
     bad 1 "standard input: refused 1: network bytes under 3" check --net - < <(printf 'ab')
 }
 

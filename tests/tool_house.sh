@@ -95,7 +95,7 @@ mistakes_of_a_name() {
     # another control byte makes a file network bytes, and the place where it stands is told too
     for byte in 00 01 1b; do
         mistaken "${one}ü\x$byte" ' refused 2: network version not 1, or the fourth field not 0' \
-            "2:11: found the control byte 0x$byte, so these are network bytes, expected none in a text"
+            "2:11: found the control byte 0x$byte, so the file is read as network bytes, expected none in a house text"
     done
     # pack takes texts only
     bad 1 "house.txt:2:11: found the control character U+001B, expected a name without any" pack "$work/house.txt" -o -

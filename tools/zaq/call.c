@@ -113,5 +113,5 @@ int read_call(const struct command *command, int count, char **words, struct cal
         return say(FAILED, "%s: a word is missing; usage: zaq %s", command->name, command->usage);
     if (command->options & NEEDS_OUT && !call->out)
         return say(FAILED, "%s: -o and a file's name are missing (- is standard output); usage: zaq %s", command->name, command->usage);
-    return reads_twice(call) ? say(FAILED, "%s: standard input (-) can be read once only", command->name) : DONE;
+    return reads_twice(call) ? say(FAILED, "%s: standard input (-) can be read only once", command->name) : DONE;
 }

@@ -24,7 +24,7 @@ struct command {
 /* The command of this name, or NULL. */
 const struct command *find_command(const char *name);
 
-/* Sorts a command's words and options: 0, or FAILED after a message. */
+/* Tells a command's options from its words: 0, or FAILED after a message. */
 int read_call(const struct command *command, int count, char **words, struct call *call);
 /* How a call's house is to be read. */
 enum form form_of(const struct call *call);

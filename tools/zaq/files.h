@@ -16,7 +16,7 @@ int read_bytes(const char *path, size_t most, struct bytes *bytes);
 /* Room for `more` bytes after those that are there; 0 if there is no memory, told. */
 int has_room(struct bytes *bytes, size_t more);
 
-/* Where a command writes to. What is written is kept in memory until the end, and then a file gets its name only when it is whole and on the
+/* Where a command writes to. Everything is kept in memory until the end, and then a file gets its name only when it is whole and on the
  * disk; until then the old one stays as it was. */
 struct output {
     FILE *file; /* for the command to write to */

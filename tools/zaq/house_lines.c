@@ -70,9 +70,9 @@ int take_number(struct reading *reading, struct line *line, const char *expected
     const uint8_t *word = line->at;
     for (; line->at < line->end && *line->at >= '0' && *line->at <= '9'; line->at++)
         found = found > UINT8_MAX ? found : 10 * found + (unsigned)(*line->at - '0');
-    /* an arrow or a comment may follow without a blank; anything else that hangs on the digits makes them another word */
-    int hangs_on = line->at < line->end && !is_blank(*line->at) && !memchr("-<#", *line->at, 3);
-    if (line->at == word || hangs_on || found > UINT8_MAX) {
+    /* an arrow or a comment may follow without a blank; anything else makes the digits part of some other word */
+    int goes_on = line->at < line->end && !is_blank(*line->at) && !memchr("-<#", *line->at, 3);
+    if (line->at == word || goes_on || found > UINT8_MAX) {
         not_expected(reading, line, word, expected);
         return 0;
     }

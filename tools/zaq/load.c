@@ -124,8 +124,9 @@ int tell_fault(const char *path, const struct fault *fault)
     else
         say_refused(name, fault->refusal);
     if (fault->line) {
-        char words[100];
-        snprintf(words, sizeof words, "found the control byte 0x%02x, so these are network bytes, expected none in a text", fault->control);
+        char words[120];
+        snprintf(words, sizeof words, "found the control byte 0x%02x, so the file is read as network bytes, expected none in a house text",
+            fault->control);
         say_at(REFUSED, name, fault->line, fault->column, words);
     }
     return REFUSED;

@@ -3,7 +3,8 @@
 #include <stdlib.h>
 #include <string.h>
 
-/* One byte more is refused as standing after the end mark exactly if there is one: a byte of ones can only go on a record or begin one. */
+/* A file with one more byte is refused as going on after its end mark exactly if it has one: without one, a byte of ones can only continue
+ * a record or begin one. */
 int has_end_mark(const uint8_t *file, size_t file_len)
 {
     uint8_t longer[ZAQ_FILE_ROOM + 1];
