@@ -16,7 +16,7 @@ build() { # build PROGRAM FOLDER
 
 for tool in "${@:-zaq}"; do
     case $tool in
-    zaq) build target/bin/zaq tools/zaq ;;
+    zaq) build "$built/bin/zaq" tools/zaq ;;
     draw_house) build target/tools/draw_house tools/draw_house ;;
     *)
         echo "usage: $0 [zaq|draw_house ..]" >&2
