@@ -61,18 +61,19 @@ try_all() {
     mkdir -p "$work"
     while read -r name digits; do bytes "$digits" > "$work/$name"; done <<< "$examples"
     for topic in $topics; do "test_$topic"; done
-    echo "with ${zaq[*]}: $((SECONDS - began)) s"
+    echo "with $(basename "${zaq[0]}"): $((SECONDS - began)) s"
 }
 
 if [ -n "${ZAQ:-}" ]; then
-    zaq=("$ZAQ")
+    zaq=("$(realpath "$ZAQ")")
+    verdict "there is no program $ZAQ" test -x "${zaq[0]}"
     try_all
     closing_line
     exit
 fi
 
 verdict 'zaq is built' bash tools/build.sh zaq
-zaq=(target/bin/zaq)
+zaq=("$PWD/target/bin/zaq")
 try_all
 if [ "$emulated" = yes ]; then
     echo 'not once more with sanitizers: the programs are emulated here'
@@ -83,6 +84,6 @@ mkdir -p target/tools
 verdict 'zaq compiles with sanitizers' "$CC" -std=c99 -g -fsanitize=address,undefined -fno-sanitize-recover -Iinclude tools/zaq/*.c \
     "$(bash tools/library.sh)" -lm -o target/tools/zaq_sanitized
 export ASAN_OPTIONS=detect_leaks=0 # a program that is about to end may leave its memory to the system
-zaq=(target/tools/zaq_sanitized)
+zaq=("$PWD/target/tools/zaq_sanitized")
 try_all
 closing_line

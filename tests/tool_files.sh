@@ -130,7 +130,7 @@ not_written() {
     bad 1 'refused 12: file wanted of a node not started' write "$work/q" /dev/null 1 -o "$old/file"
     verdict 'the old file is as it was after a refusal' test "$(cat "$old/file")" = 'as it was'
     verdict "only the old file is there: $(ls -A "$old" | xargs)" test "$(ls -A "$old")" = file
-    (cd "$old" && "${zaq[@]/#target/$OLDPWD/target}" write "$OLDPWD/$work/q" 1 -o plain)
+    (cd "$old" && "${zaq[@]}" write "$OLDPWD/$work/q" 1 -o plain)
     verdict 'a name without a folder' cmp -s "$old/plain" "$work/p4"
 }
 
