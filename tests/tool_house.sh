@@ -56,6 +56,10 @@ mistakes_of_a_line() {
     mistaken 'lmax 4\ndevice 2\n' '2:8: found device 2, but no device 1, expected numbers without a gap'
     mistaken "${two}battery 2 b" "4:1: found 'battery', which is reserved for battery devices, expected lmax, device or link"
     mistaken "${two}\tLink 1 -> 2 length 1" "4:2: found 'Link', expected lmax, device or link, or a comment after #"
+}
+
+mistakes_of_a_link() {
+    local two='lmax 4\ndevice 1 a\ndevice 2 b\n'
     mistaken "${two}link 1 > 2 length 1" "4:8: found '>', expected -> (one way) or <-> (both ways)"
     mistaken "${two}link 1 <- 2 length 1" "4:8: found '<-', expected -> (one way) or <-> (both ways)"
     mistaken "${two}link a -> 2 length 1" "4:6: found 'a', expected a device's number"
@@ -173,6 +177,7 @@ link 3 -> 1 length 1' unpack "$work/ways"
 test_house() {
     good_texts
     mistakes_of_a_line
+    mistakes_of_a_link
     mistakes_of_a_name
     many_mistakes
     unpacked
