@@ -64,7 +64,7 @@ from node 3:
 }
 
 runs() {
-    says '5 steps: 4 taken, 1 idle, 0 unknown; 2 of 2 nodes started, 2 stopped
+    says '5 steps: 4 taken, 1 idle, 0 unknown; 2 of 2 devices started, 2 stopped
 node 1 has stopped:
   to node 1: itself
   to node 2: distance 1, first hop node 2
@@ -72,37 +72,37 @@ node 2 has stopped:
   to node 1: unreachable
   to node 2: itself' run "$work/two" "$work/steps"
     # after three steps node 1 knows every target, and has not stopped
-    says '3 steps: 3 taken, 0 idle, 0 unknown; 2 of 2 nodes started, 1 stopped
+    says '3 steps: 3 taken, 0 idle, 0 unknown; 2 of 2 devices started, 1 stopped
 node 1 has started:
   to node 1: itself
   to node 2: distance 1, first hop node 2
 node 2 has stopped:
   to node 1: unreachable
   to node 2: itself' run "$work/two" - < <(head -c 3 "$work/steps")
-    says '1 step: 1 taken, 0 idle, 0 unknown; 1 of 2 nodes started, 0 stopped
+    says '1 step: 1 taken, 0 idle, 0 unknown; 1 of 2 devices started, 0 stopped
 node 1 has started:
   to node 1: itself
   to node 2: unknown
 node 2 has not started: it knows nothing' run "$work/two" - < <(head -c 1 "$work/steps")
-    says 'after 2 steps: 2 taken, 0 idle, 0 unknown; 2 of 2 nodes started, 1 stopped
+    says 'after 2 steps: 2 taken, 0 idle, 0 unknown; 2 of 2 devices started, 1 stopped
   node 1 has started
   node 2 has started
   node 2 knows node 1: unreachable
   node 2 has stopped
-after 4 steps: 4 taken, 0 idle, 0 unknown; 2 of 2 nodes started, 2 stopped
+after 4 steps: 4 taken, 0 idle, 0 unknown; 2 of 2 devices started, 2 stopped
   node 1 knows node 2: distance 1, first hop node 2
   node 1 has stopped
-after 5 steps: 4 taken, 1 idle, 0 unknown; 2 of 2 nodes started, 2 stopped' run "$work/two" "$work/steps" --every 2
-    says 'after 0 steps: 0 taken, 0 idle, 0 unknown; 0 of 2 nodes started, 0 stopped' run "$work/two" /dev/null --every 3
+after 5 steps: 4 taken, 1 idle, 0 unknown; 2 of 2 devices started, 2 stopped' run "$work/two" "$work/steps" --every 2
+    says 'after 0 steps: 0 taken, 0 idle, 0 unknown; 0 of 2 devices started, 0 stopped' run "$work/two" /dev/null --every 3
     # the tool's own steps: two starts and two rounds on one arc
     ask run "$work/two"
     verdict "its own steps: $(head -n 1 "$work/out")" \
-        grep -qx '4 steps: 4 taken, 0 idle, 0 unknown; 2 of 2 nodes started, 2 stopped' "$work/out"
+        grep -qx '4 steps: 4 taken, 0 idle, 0 unknown; 2 of 2 devices started, 2 stopped' "$work/out"
     # a million times step 00: node 1 starts once; then a byte that names no node
     { head -c 1000000 /dev/zero; printf '\x05'; } > "$work/long"
     ask run "$work/two" "$work/long"
     verdict "a million steps: $(head -n 1 "$work/out")" \
-        grep -qx '1000001 steps: 1 taken, 999999 idle, 1 unknown; 1 of 2 nodes started, 0 stopped' "$work/out"
+        grep -qx '1000001 steps: 1 taken, 999999 idle, 1 unknown; 1 of 2 devices started, 0 stopped' "$work/out"
 }
 
 writes() { # writes DIGITS ARGUMENT..: the table file

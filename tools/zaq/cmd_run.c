@@ -45,7 +45,7 @@ static int run_until(const struct house *house, const uint8_t *steps, size_t ste
 static void put_moment(const struct house *house, const struct moment *moment)
 {
     put_counts(stdout, moment->steps_len, moment->outcome.counts);
-    printf("; %u of %u nodes started, %u stopped\n", how_many(moment->started), (unsigned)house->n, how_many(moment->stopped));
+    printf("; %u of %u devices started, %u stopped\n", how_many(moment->started), (unsigned)house->n, how_many(moment->stopped));
 }
 
 /* ---- the outcome */
