@@ -1,6 +1,7 @@
 #!/usr/bin/env bash
 # The program house_table, run as a bench crew runs it, against document 01's worked example and against an independent program: every
-# refusal, random inputs, input that arrives in pieces, and input that goes on after the 65,000 bytes that are used.
+# refusal, random inputs, input that arrives in pieces, and input that goes on after the 65,000 bytes that are used. And what it says on
+# standard error of a refusal, a failed read, a failed write and arguments, with the exit status that tools/house_table.sh gives.
 . "$(dirname "$0")/verdict.sh"
 
 program=$(program house_table)
@@ -13,13 +14,18 @@ mkdir -p "$work"
 same() { # same TEXT: the program and the independent one print the same for the input
     "$independent" print < "$input" > "$work/right"
     verdict "$1: the independent program says nothing" test -s "$work/right"
-    verdict "$1" cmp -s <("$program" < "$input") "$work/right"
+    verdict "$1" cmp -s <("$program" < "$input" 2> "$work/complaint") "$work/right"
+    # a refusal's line is 01's, and stands on standard error with the program's name
+    verdict "$1: '$(cat "$work/complaint")' on standard error" \
+        test "$(cat "$work/complaint")" = "$(sed -n 's/^refused /house_table: &/p' "$work/right")"
 }
 
 refused() { # refused NUMBER DIGITS: the whole output is the one line, also where steps follow
     bytes "$2" > "$input"
-    verdict "$2 is refused with '$("$program" < "$input")', not $1" test "$("$program" < "$input")" = "refused $1"
-    verdict "$2 is refused in one line" test "$("$program" < "$input" | wc -l)" = 1
+    "$program" < "$input" > "$work/out" 2> "$work/complaint"
+    verdict "$2 is refused with '$(cat "$work/out")', not $1" test "$(cat "$work/out")" = "refused $1"
+    verdict "$2 is refused in one line" test "$(wc -l < "$work/out")" = 1
+    verdict "$2: '$(cat "$work/complaint")' on standard error" test "$(cat "$work/complaint")" = "house_table: refused $1"
 }
 
 verdict 'it is built' test -x target/bin/house_table
@@ -66,6 +72,35 @@ for ((seed = 1; seed <= 40; seed++)); do
     same "random input $seed"
 done
 
+# what goes wrong: told on standard error, and by the status that tools/house_table.sh gives, whose output is the program's own
+ends() { # ends STATUS SAYS OUT: of the shell command in $command, with $run for the program
+    local status=0
+    for run in "$program" "$PWD/tools/house_table.sh"; do
+        rm -f "$work/out"
+        (eval "$command") > "$work/out" 2> "$work/complaint"
+        status=$?
+        verdict "$command: '$(cat "$work/complaint")' on standard error" test "$(cat "$work/complaint")" = "$2"
+        verdict "$command: '$(cat "$work/out")' on standard output" test "$(cat "$work/out")" = "$3"
+    done
+    verdict "$command: status $status, not $1" test "$status" -eq "$1"
+}
+bytes 11100101100001101010 > "$work/worked"
+bytes 124004031121022204 > "$work/five" # network Q with a node 4 as a tail: refusal 5
+reading='house_table: reading failed' writing='house_table: writing failed'
+command='"$run" < "$work/worked"' && ends 0 '' "$worked"
+command='"$run" < "$work/five"' && ends 1 'house_table: refused 5' 'refused 5'
+command='"$run" < "$work"' && ends 2 "$reading" '' # a directory
+command='"$run" <&-' && ends 2 "$reading" ''
+command='"$run" < "$work/worked" > /dev/full' && ends 2 "$writing" ''
+command='"$run" < "$work/worked" >&-' && ends 2 "$writing" ''
+command='"$run" < "$work/five" > /dev/full' && ends 2 "house_table: refused 5
+$writing" ''
+usage='usage: house_table < INPUT    INPUT is a network'"'"'s bytes, then step bytes'
+command='"$run" "$work/worked" < "$work/five"' && ends 2 "$usage" ''
+command='"$run" "" < "$work/five"' && ends 2 "$usage" ''
+command='{ "$run" --help; cat; } < "$work/five" | wc -c' && ends 0 "$usage" 9 # nothing is read
+command='"$run" < "$work/worked" 2>&-' && ends 0 '' "$worked"
+
 # pieces, each after a pause: a read that gives fewer bytes than were asked for is not the end of input
 slowly() { # slowly PIECE..: each piece is hexadecimal digits
     local piece
@@ -76,7 +111,7 @@ slowly() { # slowly PIECE..: each piece is hexadecimal digits
 }
 verdict 'input byte by byte' test "$(slowly 11 10 01 01 10 00 01 10 10 10 | "$program")" = "$worked"
 verdict 'input cut inside the network and inside the steps' test "$(slowly 1110 010110 0001 101010 | "$program")" = "$worked"
-verdict 'a network in pieces that never becomes whole' test "$(slowly 12 4004 0111210222 | "$program")" = 'refused 1'
+verdict 'a network in pieces that never becomes whole' test "$(slowly 12 4004 0111210222 | "$program" 2> /dev/null)" = 'refused 1'
 
 # a house of sixteen: every device hears the next two, and steps go beyond the 65,000 bytes that are used
 digits=1f9020
