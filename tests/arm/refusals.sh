@@ -21,18 +21,21 @@ own_clang=$(kit_bin)/clang
 rm -rf "$tree"
 mkdir -p "$tree/target" "$tree/case"
 cp -r crates crates.txt include tools "$tree"
-ln -s "$PWD/target/rlib" "$PWD/target/stamp" "$tree/target"
+cp -r target/stamp "$tree/target"
+ln -s "$PWD/target/rlib" "$tree/target"
 link_all_but on "$(kit)" "$tree/kit"
 link_all_but bin "$(kit)/$on" "$tree/kit/$on"
 link_all_but rattle "$(kit)/$on/bin" "$tree/kit/$on/bin"
 cat > "$tree/kit/$on/bin/rattle" << 'PROVER'
 #!/usr/bin/env bash
-# builds the library as the file `how` beside the module says
+# builds the library as the file `how` beside the module says, and proves nothing: a crate that is not proved yet is none of its work
 set -eu
+kind=''
 while [ $# -gt 0 ]; do
-    case $1 in --toolchain) toolchain=$2 ;; -o) archive=$2 ;; esac
+    case $1 in --toolchain) toolchain=$2 ;; -o) archive=$2 ;; --crate-type) kind=$2 ;; esac
     shift
 done
+[ "$kind" = staticlib ]
 cd "$(dirname "$0")/../../../../case"
 clang=$toolchain/bin/clang
 usual=(-ffunction-sections -mllvm -trap-unreachable -Werror -fPIC -O3 --sysroot="$toolchain")
