@@ -1,0 +1,102 @@
+/* The lines of the house: routes in colour, above all other arcs in grey. Each arc has one head. */
+#include "draw_parts.h"
+#include <math.h>
+
+enum { AHEAD = 14, BACK = 11 }; /* the heads of a route, and of an arc back under it */
+
+/* A line's title: its arc, or both, with the length, which a dense house does not show otherwise. */
+static void draw_line_title(const struct picture *picture, size_t arc)
+{
+    zaq_arc a = picture->house->arcs[arc];
+    fprintf(picture->out, "<title>");
+    draw_node_words(picture, a.tail);
+    fprintf(picture->out, " to ");
+    draw_node_words(picture, a.head);
+    fprintf(picture->out, "%s: length %u</title></path>\n", picture->line[arc].two_way ? " and back" : "", a.length);
+}
+
+/* Whether a route has the arc's line: two arcs of one length share theirs. */
+static int is_covered(const struct picture *picture, size_t arc)
+{
+    zaq_arc a = picture->house->arcs[arc];
+    return draw_on_route(picture, arc) || (picture->line[arc].two_way && picture->before[a.tail] == a.head);
+}
+
+void draw_arcs(const struct picture *picture)
+{
+    double size = picture->dense ? 6 : 9;
+    /* many arcs must not drown the routes */
+    fprintf(picture->out, "<g class=\"arcs%s%s\">\n", picture->dense ? " dense" : "", picture->dense && picture->table ? " faint" : "");
+    for (size_t k = 0; k < picture->house->arcs_len; k++) {
+        const struct line *line = &picture->line[k];
+        if (!line->drawn || is_covered(picture, k))
+            continue;
+        draw_path(picture->out, "arc", NULL, line);
+        draw_line_title(picture, k);
+        draw_head_to(picture->out, "tip", NULL, line, size);
+        if (line->two_way)
+            draw_head_from(picture->out, "tip", NULL, line, size);
+    }
+    fprintf(picture->out, "</g>\n");
+}
+
+/* A step of length 1 along the arc, out of one of its nodes. */
+static struct point way_out(const struct picture *picture, size_t arc, unsigned node)
+{
+    struct point from = picture->place[node], to = picture->line[arc].control;
+    double far = draw_far(from, to);
+    return (struct point){(to.x - from.x) / far, (to.y - from.y) / far};
+}
+
+/* How far from the tail's disc the head of the arc back stands: where routes are close together, further out, so that it can be seen. */
+static double back_off(const struct picture *picture, size_t arc)
+{
+    enum { ASIDE = 12 };
+    const zaq_arc *arcs = picture->house->arcs;
+    unsigned tail = arcs[arc].tail;
+    struct point own = way_out(picture, arc, tail);
+    double off = 0;
+    for (size_t k = 0; k < picture->house->arcs_len; k++)
+        if (k != arc && draw_on_route(picture, k) && (arcs[k].tail == tail || arcs[k].head == tail))
+            off = fmax(off, ASIDE / fmax(0.01, draw_far(own, way_out(picture, k, tail))) - RIM);
+    /* a short line has its length in the middle; and what would hardly move stays at the disc */
+    off = fmin(off, draw_far(picture->line[arc].from, picture->line[arc].to) / 2 - 28);
+    return off < BACK ? 0 : off;
+}
+
+static const char *colour_of(const struct picture *picture, size_t arc)
+{
+    return draw_colour(draw_hop(picture, picture->house->arcs[arc].head));
+}
+
+static void draw_shaft(const struct picture *picture, size_t arc)
+{
+    const struct line *line = &picture->line[arc];
+    double far = draw_far(line->from, line->to);
+    /* a thick line must not stick out of its heads */
+    int short_of_disc = line->two_way && back_off(picture, arc) == 0;
+    struct line shaft = draw_piece(line, short_of_disc ? (BACK - 1) / far : 0, 1 - (AHEAD - 3) / far);
+    draw_path(picture->out, "way", colour_of(picture, arc), &shaft);
+    draw_line_title(picture, arc);
+}
+
+static void draw_heads(const struct picture *picture, size_t arc)
+{
+    const struct line *line = &picture->line[arc];
+    draw_head_to(picture->out, "ahead", colour_of(picture, arc), line, AHEAD);
+    if (line->two_way) {
+        struct line back = draw_piece(line, back_off(picture, arc) / draw_far(line->from, line->to), 1);
+        draw_head_from(picture->out, "back", colour_of(picture, arc), &back, BACK);
+    }
+}
+
+/* Each known target's route ends in its last arc; together these are all the arcs of all routes. Heads lie above all shafts. */
+void draw_routes(const struct picture *picture)
+{
+    for (size_t k = 0; k < picture->house->arcs_len; k++)
+        if (draw_on_route(picture, k))
+            draw_shaft(picture, k);
+    for (size_t k = 0; k < picture->house->arcs_len; k++)
+        if (draw_on_route(picture, k))
+            draw_heads(picture, k);
+}
