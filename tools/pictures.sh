@@ -1,16 +1,15 @@
 #!/usr/bin/env bash
-# Draws the sample house and what its television knows: from its whole table file, and from the file cut to six of nine bytes.
-#   pictures.sh [FOLDER]     docs/images if none is named
+# Draws the sample house and what its television knows: from its finished run, and from its table file cut to six bytes.
+#   pictures.sh [FOLDER]     docs/images if none is named; ZAQ names another program to draw with
 set -eu
 cd "$(dirname "$0")/.."
 folder=${1:-docs/images}
 work=target/pictures
+zaq=${ZAQ:-target/bin/zaq}
 mkdir -p "$folder" "$work"
-bash tools/build.sh draw_house node_file
-for part in network steps names; do bash tools/sample_house.sh "$part" > "$work/$part"; done
-target/tools/node_file "$work/network" "$work/steps" 1 > "$work/whole"
+if [ -z "${ZAQ:-}" ]; then bash tools/build.sh zaq; fi
+"$zaq" draw examples/house.txt 1 -o "$folder/house_whole.svg"
+"$zaq" write examples/house.txt 1 -o "$work/whole"
 head -c 6 "$work/whole" > "$work/cut"
-for table in whole cut; do
-    target/tools/draw_house "$work/network" "$work/$table" "$work/names" > "$folder/house_$table.svg"
-    echo "$folder/house_$table.svg"
-done
+"$zaq" draw examples/house.txt "$work/cut" -o "$folder/house_cut.svg"
+printf '%s\n' "$folder/house_whole.svg" "$folder/house_cut.svg"
