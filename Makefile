@@ -14,7 +14,7 @@ demo:
 
 # target/bin/zaq; what is proved is not proved again
 tool:
-	bash tools/build.sh zaq
+	bash tools/build.sh
 
 test:
 	bash .ci/run

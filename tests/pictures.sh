@@ -7,7 +7,7 @@ work=target/pictures_test
 rm -rf "$work"
 mkdir -p "$work"
 zaq=${ZAQ:-target/bin/zaq}
-if [ -z "${ZAQ:-}" ]; then verdict 'zaq is built' bash tools/build.sh zaq; fi
+if [ -z "${ZAQ:-}" ]; then verdict 'zaq is built' bash tools/build.sh; fi
 picture=$work/picture.svg
 
 well_formed() { # well_formed FILE: by whichever parser there is, else as many tags opened as closed and the last one svg's

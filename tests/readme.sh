@@ -54,7 +54,7 @@ transcripts() { # transcripts FILE
 }
 
 commands=0
-verdict 'the tool is built' bash tools/build.sh zaq
+verdict 'the tool is built' bash tools/build.sh
 if [ $# -eq 0 ]; then
     c_program
     set -- README.md docs/HOUSE.md

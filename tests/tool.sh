@@ -72,7 +72,7 @@ if [ -n "${ZAQ:-}" ]; then
     exit
 fi
 
-verdict 'zaq is built' bash tools/build.sh zaq
+verdict 'zaq is built' bash tools/build.sh
 zaq=("$PWD/target/bin/zaq")
 try_all
 if [ "$emulated" = yes ]; then

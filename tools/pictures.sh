@@ -7,7 +7,7 @@ folder=${1:-docs/images}
 work=target/pictures
 zaq=${ZAQ:-target/bin/zaq}
 mkdir -p "$folder" "$work"
-if [ -z "${ZAQ:-}" ]; then bash tools/build.sh zaq; fi
+if [ -z "${ZAQ:-}" ]; then bash tools/build.sh; fi
 "$zaq" draw examples/house.txt 1 -o "$folder/house_whole.svg"
 "$zaq" write examples/house.txt 1 -o "$work/whole"
 head -c 6 "$work/whole" > "$work/cut"

@@ -5,7 +5,7 @@
 #   sample_house.sh steps     the step bytes alone
 set -eu
 cd "$(dirname "$0")/.."
-bash tools/build.sh zaq
+bash tools/build.sh
 
 network() { target/bin/zaq pack examples/house.txt -o -; }
 
