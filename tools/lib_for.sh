@@ -21,6 +21,7 @@ if [ $# -ne 1 ] || ! is_target "$target"; then
     exit 2
 fi
 command -v rt > /dev/null || no_library 'rt, the Rattle toolchain, is not found'
+[ -x "$(kit_bin)/clang" ] || no_library "the toolchain's clang is not found"
 into=target/$target
 work=$PWD/$into/made
 library=$into/libzaqfinell.a
