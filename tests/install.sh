@@ -86,7 +86,11 @@ fails() { # fails WORDS ARGUMENT..: make install with these says so, and install
 }
 verdict 'a relative prefix is refused' fails 'PREFIX must begin with /' PREFIX=usr
 verdict 'a prefix with a blank is refused' fails 'a character that a pkg-config file cannot have' PREFIX='/a b'
-verdict 'a library that is not of these sources is not installed' fails 'run make lib tool first' PREFIX=/usr -W crates.txt
 verdict 'a folder that cannot be made' fails 'Not a directory' PREFIX=/usr DESTDIR="$work/told"
+library=target/staticlib/libzaqfinell.a
+touch -r "$library" "$work/time"
+touch -d 2000-01-01 "$library"
+verdict 'a library that is older than its sources is not installed' fails 'run make lib tool first' PREFIX=/usr
+touch -r "$work/time" "$library"
 
 closing_line
