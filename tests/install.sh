@@ -68,7 +68,7 @@ verdict 'make install again' make -s install PREFIX="$prefix" DESTDIR= > /dev/nu
 verdict 'make uninstall' make -s uninstall PREFIX="$prefix" DESTDIR= > "$work/told"
 verdict "left is $(find "$prefix" ! -type d)" test "$(find "$prefix" ! -type d)" = "$prefix/bin/other"
 for file in $wanted; do verdict "that $file goes is not told" grep -qx "removed $prefix/${file#./}" "$work/told"; done
-verdict 'make uninstall where nothing is' make -s uninstall PREFIX="$prefix" DESTDIR=
+verdict 'make uninstall where nothing is' grep -q '^nothing to remove' <(make -s uninstall PREFIX="$prefix" DESTDIR=)
 
 # into the folder of a package, whose name may be anything; the files are made for the prefix
 stage="$work/a package"

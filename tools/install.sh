@@ -28,14 +28,16 @@ emulated='bin/zaq.x86_64 target/bin/zaq.x86_64 755' # the tool is two files wher
 pc=lib/pkgconfig/zaqfinell.pc
 
 remove() {
-    local file
+    local file gone=no
     for file in "${files[@]}" "$emulated" "$pc"; do
         file=$into/${file%% *}
         if [ -e "$file" ] || [ -L "$file" ]; then
             rm -f "$file"
             echo "removed $file"
+            gone=yes
         fi
     done
+    [ "$gone" = yes ] || echo "nothing to remove: none of the files is in $into"
 }
 
 pc_text() { # pc_text VERSION

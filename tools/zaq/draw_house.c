@@ -54,11 +54,12 @@ static void draw_title_words(const struct picture *picture)
 static void draw_heading(const struct picture *picture)
 {
     FILE *out = picture->out;
-    unsigned known = 0, unknown = 0, n = picture->house->n;
+    unsigned known = 0, unknown = 0, n = picture->house->n, own = picture->table ? picture->table->own : 0;
     fprintf(out, "<text class=\"heading\" x=\"%d\" y=\"46\">", MARGIN);
-    if (picture->table && picture->house->names[picture->table->own][0]) {
-        fprintf(out, "Table of %u (<tspan class=\"name\">", picture->table->own);
-        draw_cut_name(out, picture->house->names[picture->table->own], picture->width - 2 * MARGIN - 220, 1.15 * TITLE_SIZE);
+    if (own && picture->house->names[own][0]) {
+        /* a bold letter is wider, and the words around the name take some room */
+        fprintf(out, "Table of %u (<tspan class=\"name\">", own);
+        draw_cut_name(out, picture->house->names[own], picture->width - 2 * MARGIN - 220, 1.15 * TITLE_SIZE);
         fprintf(out, "</tspan>)");
     } else
         draw_title_words(picture);
@@ -67,7 +68,7 @@ static void draw_heading(const struct picture *picture)
     draw_count(out, ", ", (unsigned)picture->house->arcs_len, "arc");
     fprintf(out, ", LMAX %u", picture->house->lmax);
     for (unsigned node = 1; picture->table && node <= n; node++) {
-        known += node != picture->table->own && draw_is_known(picture, node);
+        known += node != own && draw_is_known(picture, node);
         unknown += draw_distance(picture, node) == ZAQ_UNKNOWN;
     }
     if (picture->table)
