@@ -78,8 +78,8 @@ static void draw_heading(const struct picture *picture)
     fprintf(out, "</text>\n");
 }
 
-/* The house is one that the library accepts, and the table is that of one of its nodes, whole or cut: callers see to that. The same house and
- * table give the same bytes. */
+/* The house is one that the library accepts, and the table is that of one of its nodes, whole or cut: callers see to that. The same house
+ * and table give the same bytes. */
 int draw_house(FILE *out, const struct house *house, const struct table *table)
 {
     struct picture picture = {.out = out, .house = house, .table = table};

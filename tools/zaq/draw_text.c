@@ -1,28 +1,18 @@
 /* Names may be any UTF-8: here they become XML, and are cut to the room that they have. */
 #include "draw_parts.h"
+#include "say.h"
 #include <string.h>
 
 enum { REPLACEMENT = 0xfffd };
 #define ELLIPSIS "\xe2\x80\xa6"
 
-/* What XML takes, without control characters. */
-static int is_text(uint32_t value)
-{
-    return (value >= 0x20 && value < 0x7f) || (value >= 0xa0 && value < 0xd800) || (value >= 0xe000 && value < 0xfffe)
-           || (value >= 0x10000 && value < 0x110000);
-}
-
 /* The character at the beginning of the text, and how many bytes it takes. What XML does not take is the replacement character. */
-static uint32_t character(const char *text, size_t *taken)
+static uint32_t xml_character(const char *text, size_t *taken)
 {
-    static const uint32_t least[] = {0, 0x80, 0x800, 0x10000};
-    uint8_t first = (uint8_t)text[0];
-    size_t more = first < 0xc0 ? 0 : first < 0xe0 ? 1 : first < 0xf0 ? 2 : 3, size = 1;
-    uint32_t value = more ? first & (0x3fu >> more) : first;
-    while (size <= more && ((uint8_t)text[size] & 0xc0) == 0x80)
-        value = value << 6 | ((uint8_t)text[size++] & 0x3f);
-    *taken = size;
-    return size <= more || value < least[more] || !is_text(value) || (more == 0 && first >= 0x80) ? REPLACEMENT : value;
+    const uint8_t *at = (const uint8_t *)text;
+    uint32_t value;
+    *taken = character(at, at + strlen(text), &value);
+    return value == NOT_UTF8 || is_control(value) || value == 0xfffe || value == 0xffff ? REPLACEMENT : value;
 }
 
 static void put_character(FILE *out, uint32_t value, const char *bytes, size_t len)
@@ -62,7 +52,7 @@ static int put_fitting(FILE *out, const char *name, double room)
     size_t taken;
     double used = 0;
     for (; *name; name += taken) {
-        uint32_t value = character(name, &taken);
+        uint32_t value = xml_character(name, &taken);
         used += width_of(value);
         if (used > room)
             return 0;
