@@ -5,10 +5,10 @@ use libc::STDIN_FILENO;
 use libc::STDOUT_FILENO;
 
 // "It uses the first 65,000 bytes and reads no further."
-const MOST: usize = 65000;
+const MOST_BYTES: usize = 65000;
 
-// One read of standard input: how many bytes it put at the beginning of the room, 0 where the input has ended, or, where it failed, one more
-// than the room has.
+// One read of standard input: how many bytes it put at the beginning of the room, 0 where the input has ended, or, where it failed, one
+// more than the room has.
 fn read_some(room: &mut [u8]) -> usize {
     let got = libc::read(STDIN_FILENO, room);
     if got < 0 {
@@ -17,8 +17,8 @@ fn read_some(room: &mut [u8]) -> usize {
     io::count(got, room)
 }
 
-// Reads until the room is full or the input has ended, and answers as `read_some` does. Where a read failed, what was read before is not the
-// whole input, and nothing can be said of it.
+// Reads until the room is full or the input has ended, and answers as `read_some` does. Where a read failed, what was read before is not
+// the whole input, and nothing can be said of it.
 fn read_input(room: &mut [u8]) -> usize {
     let mut done = 0;
     while done < room.len() {
@@ -59,9 +59,9 @@ fn main() {
         );
         return;
     }
-    let mut input = [0u8; MOST];
+    let mut input = [0u8; MOST_BYTES];
     let got = read_input(&mut input);
-    if got > MOST {
+    if got > MOST_BYTES {
         io::write_all(STDERR_FILENO, b"house_table: reading failed\n");
         return;
     }
