@@ -7,7 +7,7 @@
 work=$(mktemp -d) || exit 1
 trap 'rm -rf "$work"' EXIT
 verdict 'the library is built' test -n "$(bash tools/library.sh)"
-verdict 'the tool is built' bash tools/build.sh zaq
+verdict 'the tool is built' bash tools/build.sh
 
 files() { # files FOLDER: what is in it; the tool's second file, of a machine where it is emulated, is left out
     (cd "$1" && find . -type f ! -name zaq.x86_64 | sort | xargs)

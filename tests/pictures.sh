@@ -3,10 +3,10 @@
 # the words for every refusal, and never a crash. ZAQ names another program to try in place of the one that is built here.
 . "$(dirname "$0")/verdict.sh"
 
-work=target/pictures_test
+work=$built/pictures_test
 rm -rf "$work"
 mkdir -p "$work"
-zaq=${ZAQ:-target/bin/zaq}
+zaq=${ZAQ:-$built/bin/zaq}
 if [ -z "${ZAQ:-}" ]; then verdict 'zaq is built' bash tools/build.sh; fi
 picture=$work/picture.svg
 

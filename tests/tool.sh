@@ -1,10 +1,10 @@
 #!/usr/bin/env bash
 # The program zaq, command by command, and every fault that can be made: tests/tool_*.sh, a topic each. Where programs are not emulated, the
 # whole once more with the compiler's sanitizers.
-# ZAQ names another program to test than target/bin/zaq, by a path from the repository's root.
+# ZAQ names another program to test than the one that is built here, by a path from the repository's root.
 . "$(dirname "$0")/verdict.sh"
 
-work=target/tool_test
+work=$built/tool_test
 topics='house commands files faults json random'
 for topic in $topics; do . "tests/tool_$topic.sh"; done
 
@@ -73,17 +73,17 @@ if [ -n "${ZAQ:-}" ]; then
 fi
 
 verdict 'zaq is built' bash tools/build.sh
-zaq=("$PWD/target/bin/zaq")
+zaq=("$PWD/$built/bin/zaq")
 try_all
 if [ "$emulated" = yes ]; then
     echo 'not once more with sanitizers: the programs are emulated here'
     closing_line
     exit
 fi
-mkdir -p target/tools
+mkdir -p "$built/tools"
 verdict 'zaq compiles with sanitizers' "$CC" -std=c99 -g -fsanitize=address,undefined -fno-sanitize-recover -Iinclude tools/zaq/*.c \
-    "$(bash tools/library.sh)" -lm -o target/tools/zaq_sanitized
+    "$(bash tools/library.sh)" -lm -o "$built/tools/zaq_sanitized"
 export ASAN_OPTIONS=detect_leaks=0 # a program that is about to end may leave its memory to the system
-zaq=("$PWD/target/tools/zaq_sanitized")
+zaq=("$PWD/$built/tools/zaq_sanitized")
 try_all
 closing_line

@@ -61,7 +61,7 @@ accepted() { # accepted SEED: the network comes back from a text, and runs and r
 
 test_random() {
     local seed refused=0 taken=0
-    independent=target/outside/outside
+    independent=$built/outside/outside
     [ -x "$independent" ] || bash tests/outside.sh quick > /dev/null
     verdict 'the independent program is built' test -x "$independent"
     for ((seed = 101; seed <= 124; seed++)); do

@@ -62,6 +62,7 @@ for target in $targets; do
     try "$target" bash tests/outside.sh
     try "$target" bash tests/examples.sh
     try "$target" bash tests/readme.sh
+    try "$target" bash tests/tool.sh
     if [ "$target" = thumbv7em-none-eabihf ]; then
         try "$target" env CC=arm-none-eabi-gcc bash tests/library.sh
         try "$target" bash tests/arm/board.sh
