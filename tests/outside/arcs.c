@@ -68,8 +68,10 @@ static void spoil(uint8_t *n, uint8_t *lmax, size_t *count, unsigned number)
         *lmax = (uint8_t)(random_below(2) ? 16 + random_below(240) : 0);
     if (number == 4)
         *count = 241 + random_below(300);
-    if (number == 5)
-        *(random_below(2) ? &one->tail : &one->head) = random_below(3) ? over : 0;
+    if (number == 5) {
+        uint8_t *end = random_below(2) ? &one->tail : &one->head;
+        *end = random_below(3) ? over : 0;
+    }
     if (number == 6)
         one->head = one->tail;
     if (number == 7)

@@ -136,8 +136,11 @@ static void refused_networks(void)
         net_len = spoil_somehow(bytes, net_len);
         unsigned refusal = ref_read_network(bytes, net_len, &dummy);
         unsigned count = asked_nodes(net.n, asked);
-        if (refusal)
-            both(asked[random_below(count)], asked[random_below(count)], refusal);
+        if (refusal) {
+            /* one after the other, so that a seed means the same for every compiler */
+            uint32_t node = asked[random_below(count)], target = asked[random_below(count)];
+            both(node, target, refusal);
+        }
     }
 }
 
