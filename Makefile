@@ -43,8 +43,8 @@ tool: $(library)
 
 # what is installed must be what is proved, but installing proves nothing
 install:
-	@$(MAKE) --no-print-directory -q $(library) || \
-	    { echo 'The library is not built, or something in crates/ is newer: run make lib tool first' >&2; exit 1; }
+	@{ $(MAKE) --no-print-directory -q $(library) && bash tools/build.sh --is-new; } || \
+	    { echo 'The library or the tool is not built, or something that it is made of is newer: run make lib tool first' >&2; exit 1; }
 	@bash tools/install.sh
 
 uninstall:

@@ -2,20 +2,20 @@
  *
  * Link with libzaqfinell.a. Each call takes numbers and buffers and returns one number. No call keeps anything between calls, allocates
  * memory or needs to be set up, so calls may be made from several tasks at once. Lengths and contents may be anything: what is wrong is
- * refused with a number, and a refused call writes nothing. Each length counts the elements of the buffer before it: bytes, arcs, or
- * 16-bit numbers. A length is a uint64_t on every chip, those of 32 bits too; sizeof values and others of type size_t can be handed over as
- * they are. Pointers must be valid for their lengths, and buffers must not overlap; a buffer of length 0 may be NULL. The library needs
- * memcpy and memset, and nothing else.
+ * refused with a number, and a refused call writes nothing. A parameter ending in _len counts the elements of the buffer before it: bytes,
+ * arcs, or 16-bit numbers. It is a uint64_t on every chip, 32-bit chips too; a size_t can be handed over as it is. Pointers must be valid
+ * for that many elements, and buffers must not overlap; a buffer of 0 elements may be NULL. The library needs memcpy and memset, and
+ * nothing else.
  *
  * A buffer that a call writes into is called a room. What a call writes stands at the beginning of the room, and the rest of the room is
  * left unchanged. ZAQ_FILE_ROOM and the other sizes ending in _ROOM are always enough; a smaller room is too short for some houses.
  *
- * Stack, measured on x86-64 and on ARM of 64 and 32 bits: under 8 KiB for a call that runs steps, under 256 bytes for reading a file
- * (docs/BENCHMARKS.md has each).
+ * Stack, measured on x86-64, 64-bit ARM and 32-bit ARM: under 8 KiB for a call that runs steps, under 1.5 KiB for checking or packing a
+ * network, under 256 bytes for reading a file.
  */
 #ifndef ZAQFINELL_H
 #define ZAQFINELL_H
-#include <stddef.h>
+#include <stddef.h> /* NULL */
 #include <stdint.h>
 
 #define ZAQ_VERSION "0.1.0"

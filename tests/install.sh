@@ -92,5 +92,10 @@ touch -r "$library" "$work/time"
 touch -d 2000-01-01 "$library"
 verdict 'a library that is older than its sources is not installed' fails 'run make lib tool first' PREFIX=/usr
 touch -r "$work/time" "$library"
+tool=target/bin/zaq
+touch -r "$tool" "$work/time"
+touch -d 2000-01-01 "$tool"
+verdict 'a tool that is older than its sources is not installed' fails 'run make lib tool first' PREFIX=/usr
+touch -r "$work/time" "$tool"
 
 closing_line

@@ -33,5 +33,5 @@ runner=$(emulator "$processor") || { echo "$0: no emulator for $processor: apt-g
 "$cross" "$@" ${more[@]+"${more[@]}"}
 mv "$out" "$out.$processor"
 # -L: where the cross compiler's C library stands
-printf '#!/bin/sh\nexec "%s" -L /usr/%s "$0.%s" "$@"\n' "$runner" "$debian" "$processor" > "$out"
+printf '#!/bin/sh\nexec "%s" -L /usr/%s "$(readlink -f "$0").%s" "$@"\n' "$runner" "$debian" "$processor" > "$out"
 chmod +x "$out"

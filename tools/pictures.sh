@@ -3,9 +3,10 @@
 #   pictures.sh [FOLDER]     docs/images if none is named; ZAQ names another program to draw with
 set -eu
 cd "$(dirname "$0")/.."
+. tools/host.sh
 folder=${1:-docs/images}
-work=target/pictures
-zaq=${ZAQ:-target/bin/zaq}
+work=$built/pictures
+zaq=${ZAQ:-$built/bin/zaq}
 mkdir -p "$folder" "$work"
 if [ -z "${ZAQ:-}" ]; then bash tools/build.sh; fi
 "$zaq" draw examples/house.txt 1 -o "$folder/house_whole.svg"

@@ -5,9 +5,10 @@
 #   sample_house.sh steps     the step bytes alone
 set -eu
 cd "$(dirname "$0")/.."
+. tools/host.sh
 bash tools/build.sh
 
-network() { target/bin/zaq pack examples/house.txt -o -; }
+network() { "$built/bin/zaq" pack examples/house.txt -o -; }
 
 # all nodes start, then every arc delivers again and again
 steps() {

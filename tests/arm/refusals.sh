@@ -128,7 +128,7 @@ altered 'a call that counts on bits above a short number' "$types" 's/@zaq_check
 altered 'a module that needs memmove' 'it needs more than memcpy and memset' \
     "$(inside zaq_read_table 'call void @llvm.memmove.p0.p0.i64(ptr %a2, ptr %a0, i64 %a1, i1 false)')"
 module
-sed -i 's/uint64_t \([a-z]*_len\)/size_t \1/g' "$tree/include/zaqfinell.h"
+sed -i 's/uint64_t \([a-z]*_len\)/uint32_t \1/g' "$tree/include/zaqfinell.h"
 refused 'a header whose lengths have 32 bits' "$types" hand_over
 
 closing_line
