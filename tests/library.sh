@@ -31,6 +31,10 @@ verdict "the library defines more than the header's calls: $(comm -13 <(echo "$c
 verdict "the library needs more than memcpy and memset: $(comm -23 <(echo "$needed") <(echo "$defined") | xargs)" \
     test -z "$(comm -23 <(echo "$needed") <(echo "$defined") | grep -vxE 'memcpy|memset')"
 
+# README.md's table has each library's bytes of code, as 10,687
+code=$("$("$CC" -print-prog-name=size)" "$library" | awk 'NR == 2 { print $1 }' | sed -E 's/([0-9]{3})$/,\1/')
+verdict "the library has $code bytes of code, and README.md says something else" grep -qF "| $library | $code |" README.md
+
 alone() { # alone COMPILER..: a program that has nothing but the header; it hands sizeof values over as they are
     "$@" -Wall -Wextra -Wpedantic -Wconversion -Werror -fsyntax-only -Iinclude "$built/library/alone.c"
 }
