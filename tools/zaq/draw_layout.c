@@ -20,20 +20,21 @@ static struct point towards(struct point from, struct point to, double by)
 }
 
 /* The point of the curve at a share of its way if both shares are alike; if not, the control point of the piece between them. */
-static struct point between(const struct line *line, double first, double last)
+static struct point between(const struct curve *curve, double first, double last)
 {
     double a = (1 - first) * (1 - last), b = first * (1 - last) + last * (1 - first), c = first * last;
-    return (struct point){a * line->from.x + b * line->control.x + c * line->to.x, a * line->from.y + b * line->control.y + c * line->to.y};
+    return (struct point){
+        a * curve->from.x + b * curve->control.x + c * curve->to.x, a * curve->from.y + b * curve->control.y + c * curve->to.y};
 }
 
-struct point draw_along(const struct line *line, double share)
+struct point draw_along(const struct curve *curve, double share)
 {
-    return between(line, share, share);
+    return between(curve, share, share);
 }
 
-struct line draw_piece(const struct line *line, double first, double last)
+struct curve draw_piece(const struct curve *curve, double first, double last)
 {
-    return (struct line){draw_along(line, first), between(line, first, last), draw_along(line, last), line->two_way, line->drawn};
+    return (struct curve){draw_along(curve, first), between(curve, first, last), draw_along(curve, last), curve->two_way, curve->drawn};
 }
 
 /* From the point to the straight piece between two others. */
@@ -45,12 +46,12 @@ static double far_from_piece(struct point p, struct point from, struct point to)
     return draw_far(p, (struct point){from.x + share * dx, from.y + share * dy});
 }
 
-double draw_far_from_line(struct point p, const struct line *line)
+double draw_far_from_curve(struct point p, const struct curve *curve)
 {
-    double least = draw_far(p, line->from);
-    struct point from = line->from;
+    double least = draw_far(p, curve->from);
+    struct point from = curve->from;
     for (int k = 1; k <= PIECES; k++) {
-        struct point to = draw_along(line, (double)k / PIECES);
+        struct point to = draw_along(curve, (double)k / PIECES);
         double far = far_from_piece(p, from, to);
         least = far < least ? far : least;
         from = to;
@@ -59,7 +60,7 @@ double draw_far_from_line(struct point p, const struct line *line)
 }
 
 /* Two arcs of different lengths between the same nodes bend apart, each to its own right, and both `further` towards the centre. */
-static struct line line_of(const struct picture *picture, size_t arc, double further)
+static struct curve curve_of(const struct picture *picture, size_t arc, double further)
 {
     const struct house *house = picture->house;
     zaq_arc a = house->arcs[arc];
@@ -73,26 +74,26 @@ static struct line line_of(const struct picture *picture, size_t arc, double fur
         control.x -= BEND * (to.y - from.y) / far;
         control.y += BEND * (to.x - from.x) / far;
     }
-    return (struct line){towards(from, control, RIM), control, towards(to, control, RIM + 1), two_way, !two_way || a.tail < a.head};
+    return (struct curve){towards(from, control, RIM), control, towards(to, control, RIM + 1), two_way, !two_way || a.tail < a.head};
 }
 
-static int is_clear(const struct picture *picture, zaq_arc arc, const struct line *line)
+static int is_clear(const struct picture *picture, zaq_arc arc, const struct curve *curve)
 {
     for (unsigned node = 1; node <= picture->house->n; node++)
-        if (node != arc.tail && node != arc.head && draw_far_from_line(picture->place[node], line) < RIM + CLEAR)
+        if (node != arc.tail && node != arc.head && draw_far_from_curve(picture->place[node], curve) < RIM + CLEAR)
             return 0;
     return 1;
 }
 
 /* Bends the arc, and its like in the other direction, until both are clear. There are no nodes towards the centre, so this ends. */
-static void lay_line(struct picture *picture, size_t arc)
+static void lay_curve(struct picture *picture, size_t arc)
 {
     zaq_arc there = picture->house->arcs[arc], back = {there.head, there.tail, 0};
     int other = draw_find_arc(picture->house, there.head, there.tail);
     for (double further = 0; further <= FURTHEST; further += FURTHER) {
-        picture->line[arc] = line_of(picture, arc, further);
-        struct line beside = other < 0 ? picture->line[arc] : line_of(picture, (size_t)other, further);
-        if (is_clear(picture, there, &picture->line[arc]) && is_clear(picture, back, &beside))
+        picture->curve[arc] = curve_of(picture, arc, further);
+        struct curve beside = other < 0 ? picture->curve[arc] : curve_of(picture, (size_t)other, further);
+        if (is_clear(picture, there, &picture->curve[arc]) && is_clear(picture, back, &beside))
             break;
     }
 }
@@ -115,12 +116,12 @@ static void place_nodes(struct picture *picture)
     }
 }
 
-static void lay_lines(struct picture *picture)
+static void lay_curves(struct picture *picture)
 {
     unsigned drawn = 0;
     for (size_t k = 0; k < picture->house->arcs_len; k++) {
-        lay_line(picture, k);
-        drawn += picture->line[k].drawn != 0;
+        lay_curve(picture, k);
+        drawn += picture->curve[k].drawn != 0;
     }
     picture->dense = drawn > MOST_LENGTHS;
 }
@@ -145,5 +146,5 @@ void draw_lay_out(struct picture *picture)
         picture->place[k].x += picture->centre.x;
         picture->place[k].y += picture->centre.y;
     }
-    lay_lines(picture);
+    lay_curves(picture);
 }

@@ -12,14 +12,14 @@ static void draw_line_title(const struct picture *picture, size_t arc)
     draw_node_words(picture, a.tail);
     fprintf(picture->out, " to ");
     draw_node_words(picture, a.head);
-    fprintf(picture->out, "%s: length %u</title></path>\n", picture->line[arc].two_way ? " and back" : "", a.length);
+    fprintf(picture->out, "%s: length %u</title></path>\n", picture->curve[arc].two_way ? " and back" : "", a.length);
 }
 
 /* Whether a route has the arc's line: two arcs of one length share theirs. */
 static int is_covered(const struct picture *picture, size_t arc)
 {
     zaq_arc a = picture->house->arcs[arc];
-    return draw_on_route(picture, arc) || (picture->line[arc].two_way && picture->before[a.tail] == a.head);
+    return draw_on_route(picture, arc) || (picture->curve[arc].two_way && picture->before[a.tail] == a.head);
 }
 
 void draw_arcs(const struct picture *picture)
@@ -28,14 +28,14 @@ void draw_arcs(const struct picture *picture)
     /* many arcs must not drown the routes */
     fprintf(picture->out, "<g class=\"arcs%s%s\">\n", picture->dense ? " dense" : "", picture->dense && picture->table ? " faint" : "");
     for (size_t k = 0; k < picture->house->arcs_len; k++) {
-        const struct line *line = &picture->line[k];
-        if (!line->drawn || is_covered(picture, k))
+        const struct curve *curve = &picture->curve[k];
+        if (!curve->drawn || is_covered(picture, k))
             continue;
-        draw_path(picture->out, "arc", NULL, line);
+        draw_path(picture->out, "arc", NULL, curve);
         draw_line_title(picture, k);
-        draw_head_to(picture->out, "tip", NULL, line, size);
-        if (line->two_way)
-            draw_head_from(picture->out, "tip", NULL, line, size);
+        draw_head_to(picture->out, "tip", NULL, curve, size);
+        if (curve->two_way)
+            draw_head_from(picture->out, "tip", NULL, curve, size);
     }
     fprintf(picture->out, "</g>\n");
 }
@@ -43,7 +43,7 @@ void draw_arcs(const struct picture *picture)
 /* A step of length 1 along the arc, out of one of its nodes. */
 static struct point way_out(const struct picture *picture, size_t arc, unsigned node)
 {
-    struct point from = picture->place[node], to = picture->line[arc].control;
+    struct point from = picture->place[node], to = picture->curve[arc].control;
     double far = draw_far(from, to);
     return (struct point){(to.x - from.x) / far, (to.y - from.y) / far};
 }
@@ -60,7 +60,7 @@ static double back_off(const struct picture *picture, size_t arc)
         if (k != arc && draw_on_route(picture, k) && (arcs[k].tail == tail || arcs[k].head == tail))
             off = fmax(off, ASIDE / fmax(0.01, draw_far(own, way_out(picture, k, tail))) - RIM);
     /* a short line has its length in the middle; and what would hardly move stays at the disc */
-    off = fmin(off, draw_far(picture->line[arc].from, picture->line[arc].to) / 2 - 28);
+    off = fmin(off, draw_far(picture->curve[arc].from, picture->curve[arc].to) / 2 - 28);
     return off < BACK ? 0 : off;
 }
 
@@ -71,21 +71,21 @@ static const char *colour_of(const struct picture *picture, size_t arc)
 
 static void draw_shaft(const struct picture *picture, size_t arc)
 {
-    const struct line *line = &picture->line[arc];
-    double far = draw_far(line->from, line->to);
+    const struct curve *curve = &picture->curve[arc];
+    double far = draw_far(curve->from, curve->to);
     /* a thick line must not stick out of its heads */
-    int short_of_disc = line->two_way && back_off(picture, arc) == 0;
-    struct line shaft = draw_piece(line, short_of_disc ? (BACK - 1) / far : 0, 1 - (AHEAD - 3) / far);
+    int short_of_disc = curve->two_way && back_off(picture, arc) == 0;
+    struct curve shaft = draw_piece(curve, short_of_disc ? (BACK - 1) / far : 0, 1 - (AHEAD - 3) / far);
     draw_path(picture->out, "way", colour_of(picture, arc), &shaft);
     draw_line_title(picture, arc);
 }
 
 static void draw_heads(const struct picture *picture, size_t arc)
 {
-    const struct line *line = &picture->line[arc];
-    draw_head_to(picture->out, "ahead", colour_of(picture, arc), line, AHEAD);
-    if (line->two_way) {
-        struct line back = draw_piece(line, back_off(picture, arc) / draw_far(line->from, line->to), 1);
+    const struct curve *curve = &picture->curve[arc];
+    draw_head_to(picture->out, "ahead", colour_of(picture, arc), curve, AHEAD);
+    if (curve->two_way) {
+        struct curve back = draw_piece(curve, back_off(picture, arc) / draw_far(curve->from, curve->to), 1);
         draw_head_from(picture->out, "back", colour_of(picture, arc), &back, BACK);
     }
 }

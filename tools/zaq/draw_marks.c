@@ -27,29 +27,29 @@ void draw_cross(FILE *out, struct point p, double from, double to)
     fprintf(out, "\"/>");
 }
 
-void draw_path(FILE *out, const char *class, const char *stroke, const struct line *line)
+void draw_path(FILE *out, const char *class, const char *stroke, const struct curve *curve)
 {
     fprintf(out, "<path class=\"%s\"", class);
     if (stroke)
         fprintf(out, " stroke=\"%s\"", stroke);
-    fprintf(out, " d=\"M%.1f %.1f Q%.1f %.1f %.1f %.1f\">", line->from.x, line->from.y, line->control.x, line->control.y, line->to.x,
-        line->to.y);
+    fprintf(out, " d=\"M%.1f %.1f Q%.1f %.1f %.1f %.1f\">", curve->from.x, curve->from.y, curve->control.x, curve->control.y, curve->to.x,
+        curve->to.y);
 }
 
-void draw_head_to(FILE *out, const char *class, const char *colour, const struct line *line, double size)
+void draw_head_to(FILE *out, const char *class, const char *colour, const struct curve *curve, double size)
 {
-    double far = draw_far(line->to, line->control);
-    double dx = (line->to.x - line->control.x) * size / far, dy = (line->to.y - line->control.y) * size / far;
-    struct point base = {line->to.x - dx, line->to.y - dy};
+    double far = draw_far(curve->to, curve->control);
+    double dx = (curve->to.x - curve->control.x) * size / far, dy = (curve->to.y - curve->control.y) * size / far;
+    struct point base = {curve->to.x - dx, curve->to.y - dy};
     fprintf(out, "<path class=\"%s\"", class);
     if (colour)
         fprintf(out, " fill=\"%s\" stroke=\"%s\"", colour, colour);
-    fprintf(out, " d=\"M%.1f %.1f L%.1f %.1f L%.1f %.1f Z\"/>\n", line->to.x, line->to.y, base.x - 0.45 * dy, base.y + 0.45 * dx,
+    fprintf(out, " d=\"M%.1f %.1f L%.1f %.1f L%.1f %.1f Z\"/>\n", curve->to.x, curve->to.y, base.x - 0.45 * dy, base.y + 0.45 * dx,
         base.x + 0.45 * dy, base.y - 0.45 * dx);
 }
 
-void draw_head_from(FILE *out, const char *class, const char *colour, const struct line *line, double size)
+void draw_head_from(FILE *out, const char *class, const char *colour, const struct curve *curve, double size)
 {
-    struct line back = {line->to, line->control, line->from, 0, 0};
+    struct curve back = {curve->to, curve->control, curve->from, 0, 0};
     draw_head_to(out, class, colour, &back, size);
 }

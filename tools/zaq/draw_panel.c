@@ -26,21 +26,21 @@ static void sign_text(const struct picture *picture, double y, const char *first
 }
 
 /* Samples of arcs and routes are lines as in the house, but under a class of their own: they belong to no arc. */
-static struct line sample(const struct picture *picture, double y)
+static struct curve sample(const struct picture *picture, double y)
 {
     double x = picture->panel;
-    return (struct line){{x, y}, {x + SIGN_WIDTH / 2, y}, {x + SIGN_WIDTH, y}, 0, 0};
+    return (struct curve){{x, y}, {x + SIGN_WIDTH / 2, y}, {x + SIGN_WIDTH, y}, 0, 0};
 }
 
 static void draw_arc_signs(const struct picture *picture, double y)
 {
     FILE *out = picture->out;
     for (int both = 0; both < 2; both++, y += SIGN) {
-        struct line line = sample(picture, y);
-        fprintf(out, "<path class=\"arc sample\" d=\"M%.1f %.1f h%d\"/>", line.from.x, y, SIGN_WIDTH);
-        draw_head_to(out, "tip sample", NULL, &line, 9);
+        struct curve curve = sample(picture, y);
+        fprintf(out, "<path class=\"arc sample\" d=\"M%.1f %.1f h%d\"/>", curve.from.x, y, SIGN_WIDTH);
+        draw_head_to(out, "tip sample", NULL, &curve, 9);
         if (both)
-            draw_head_from(out, "tip sample", NULL, &line, 9);
+            draw_head_from(out, "tip sample", NULL, &curve, 9);
         sign_text(picture, y, both ? "two arcs, one each way" : "arc, from its tail to its head",
             both ? "of the same length" : picture->dense ? "its length is left out" : "with its length");
     }
@@ -49,11 +49,11 @@ static void draw_arc_signs(const struct picture *picture, double y)
 static void draw_table_signs(const struct picture *picture, double y)
 {
     FILE *out = picture->out;
-    struct line line = sample(picture, y);
+    struct curve curve = sample(picture, y);
     struct point p = {picture->panel + SIGN_WIDTH / 2, y + SIGN}, q = {p.x, p.y + SIGN};
-    fprintf(out, "<path class=\"way sample\" stroke=\"%s\" d=\"M%.1f %.1f h%d\"/>", draw_colour(1), line.from.x + 10, y, SIGN_WIDTH - 20);
-    draw_head_to(out, "ahead sample", draw_colour(1), &line, 14);
-    draw_head_from(out, "back sample", draw_colour(1), &line, 11);
+    fprintf(out, "<path class=\"way sample\" stroke=\"%s\" d=\"M%.1f %.1f h%d\"/>", draw_colour(1), curve.from.x + 10, y, SIGN_WIDTH - 20);
+    draw_head_to(out, "ahead sample", draw_colour(1), &curve, 14);
+    draw_head_from(out, "back sample", draw_colour(1), &curve, 11);
     sign_text(picture, y, "route, a colour for each first hop", "hollow head: there is an arc back as well");
     fprintf(out, "<g class=\"unknown\">");
     draw_disc(out, p, SIGN_RIM, NULL);

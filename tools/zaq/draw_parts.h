@@ -9,8 +9,8 @@ struct point {
     double x, y;
 };
 
-/* An arc's line: a curve with one control point, from rim to rim of its nodes. */
-struct line {
+/* An arc's line in the picture: a curve with one control point, from rim to rim of its nodes. */
+struct curve {
     struct point from, control, to;
     int two_way; /* two arcs of one length between the same nodes are one line */
     int drawn;   /* that line is drawn for the arc from the lower number */
@@ -26,7 +26,7 @@ struct picture {
     const struct table *table;       /* NULL for the house alone */
     uint8_t before[MOST_NODES + 1];  /* the node before a target on its route, 0 where no route is known */
     struct point place[MOST_NODES + 1], centre;
-    struct line line[MOST_ARCS];
+    struct curve curve[MOST_ARCS];
     int dense;
     double panel, width, height;     /* where the panel begins, and the whole */
 };
@@ -43,11 +43,11 @@ int draw_on_route(const struct picture *picture, size_t arc);
 
 void draw_lay_out(struct picture *picture);
 double draw_far(struct point a, struct point b);
-/* From the point to the nearest point of the line. */
-double draw_far_from_line(struct point p, const struct line *line);
-/* The point at a share of the line's way, from 0 to 1, and the piece between two such points. */
-struct point draw_along(const struct line *line, double share);
-struct line draw_piece(const struct line *line, double first, double last);
+/* From the point to the nearest point of the curve. */
+double draw_far_from_curve(struct point p, const struct curve *curve);
+/* The point at a share of the curve's way, from 0 to 1, and the piece between two such points. */
+struct point draw_along(const struct curve *curve, double share);
+struct curve draw_piece(const struct curve *curve, double first, double last);
 double draw_panel_height(const struct picture *picture);
 
 /* A name in full, and one cut with an ellipsis where it would be wider than the room, in pixels, at a text size. */
@@ -61,11 +61,11 @@ const char *draw_colour(unsigned hop);
 void draw_disc(FILE *out, struct point p, double rim, const char *stroke);
 /* Four arms, so that a number can stand between them. */
 void draw_cross(FILE *out, struct point p, double from, double to);
-/* A line of this class, left open for its title. */
-void draw_path(FILE *out, const char *class, const char *stroke, const struct line *line);
-/* An arrow's head at the end of a line, or at its beginning. */
-void draw_head_to(FILE *out, const char *class, const char *colour, const struct line *line, double size);
-void draw_head_from(FILE *out, const char *class, const char *colour, const struct line *line, double size);
+/* A curve of this class, left open for its title. */
+void draw_path(FILE *out, const char *class, const char *stroke, const struct curve *curve);
+/* An arrow's head at the end of a curve, or at its beginning. */
+void draw_head_to(FILE *out, const char *class, const char *colour, const struct curve *curve, double size);
+void draw_head_from(FILE *out, const char *class, const char *colour, const struct curve *curve, double size);
 
 /* These lie above each other in this order. */
 void draw_arcs(const struct picture *picture);
