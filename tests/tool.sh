@@ -5,7 +5,7 @@
 . "$(dirname "$0")/verdict.sh"
 
 work=$built/tool_test
-topics='house commands files faults json random'
+topics='house commands files faults json random draw'
 for topic in $topics; do . "tests/tool_$topic.sh"; done
 
 # document 01's network Q, its files P4 to P8, P10 and P11, and the network and steps of the run that docs/FORMATS.md works out

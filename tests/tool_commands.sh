@@ -201,20 +201,6 @@ another() { # another REASON DIGITS: a file that is not of Q, to show and to dra
     bad 1 "$work/wrong: not of this house: $1" draw "$work/q" "$work/wrong"
 }
 
-draws() {
-    local words
-    for words in "" 1 "$work/p4" "$work/p8"; do
-        ask draw "$work/q" $words
-        verdict "zaq draw Q $words: status $status, $(cat "$work/err")" test "$status$(cat "$work/err")" = 0
-        verdict "zaq draw Q $words draws" grep -q '<svg' "$work/out"
-        ask draw "$work/q" $words -o "$work/picture.svg"
-        verdict "zaq draw Q $words draws the same to a file" test -s "$work/picture.svg"
-    done
-    bad 1 'refused 11: node or target outside 1 to n (node 4, and n is 3)' draw "$work/q" 4
-    bad 1 "$work/steps: refused 15: table file version not 1" draw "$work/q" "$work/steps"
-    bad 2 "$work/nothing: No such file or directory" draw "$work/q" "$work/nothing"
-}
-
 test_commands() {
     checks
     routes
@@ -222,5 +208,4 @@ test_commands() {
     table_files
     shows
     show_with_house
-    draws
 }

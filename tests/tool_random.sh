@@ -59,11 +59,15 @@ accepted() { # accepted SEED: the network comes back from a text, and runs and r
     verdict "seed $1: the routes are told otherwise" cmp -s "$work/out" <(as_routes < "$work/right")
 }
 
-test_random() {
-    local seed refused=0 taken=0
+find_independent() {
     independent=$built/outside/outside
     [ -x "$independent" ] || bash tests/outside.sh quick > /dev/null
     verdict 'the independent program is built' test -x "$independent"
+}
+
+test_random() {
+    local seed refused=0 taken=0
+    find_independent
     for ((seed = 101; seed <= 124; seed++)); do
         "$independent" input "$seed" > "$work/input"
         "$independent" print < "$work/input" > "$work/right"

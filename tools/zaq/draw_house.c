@@ -80,9 +80,9 @@ static void draw_heading(const struct picture *picture)
 
 /* The house is one that the library accepts, and the table is that of one of its nodes, whole or cut: callers see to that. The same house
  * and table give the same bytes. */
-int draw_house(FILE *out, const struct house *house, const struct table *table)
+int draw_house(FILE *out, const struct house *house, const struct table *table, const struct outcome *finished)
 {
-    struct picture picture = {.out = out, .house = house, .table = table};
+    struct picture picture = {.out = out, .house = house, .table = table, .finished = finished};
     draw_find_routes(&picture);
     draw_lay_out(&picture);
     fprintf(out, "<svg xmlns=\"http://www.w3.org/2000/svg\" viewBox=\"0 0 %.0f %.0f\" width=\"%.0f\" height=\"%.0f\"", picture.width,

@@ -19,7 +19,8 @@ static void draw_line_title(const struct picture *picture, size_t arc)
 static int is_covered(const struct picture *picture, size_t arc)
 {
     zaq_arc a = picture->house->arcs[arc];
-    return draw_on_route(picture, arc) || (picture->curve[arc].two_way && picture->before[a.tail] == a.head);
+    int back = picture->curve[arc].two_way ? draw_find_arc(picture->house, a.head, a.tail) : -1;
+    return draw_on_route(picture, arc) || (back >= 0 && draw_on_route(picture, (size_t)back));
 }
 
 void draw_arcs(const struct picture *picture)
@@ -66,7 +67,7 @@ static double back_off(const struct picture *picture, size_t arc)
 
 static const char *colour_of(const struct picture *picture, size_t arc)
 {
-    return draw_colour(draw_hop(picture, picture->house->arcs[arc].head));
+    return draw_colour(picture->route[arc]);
 }
 
 static void draw_shaft(const struct picture *picture, size_t arc)
@@ -90,7 +91,7 @@ static void draw_heads(const struct picture *picture, size_t arc)
     }
 }
 
-/* Each known target's route ends in its last arc; together these are all the arcs of all routes. Heads lie above all shafts. */
+/* Heads lie above all shafts. */
 void draw_routes(const struct picture *picture)
 {
     for (size_t k = 0; k < picture->house->arcs_len; k++)

@@ -43,7 +43,8 @@ void draw_nodes(const struct picture *picture)
     FILE *out = picture->out;
     for (unsigned node = 1; node <= picture->house->n; node++) {
         struct point p = picture->place[node];
-        int routed = picture->before[node] != 0, lost = picture->table && draw_distance(picture, node) == ZAQ_UNREACHABLE;
+        int lost = picture->table && draw_distance(picture, node) == ZAQ_UNREACHABLE;
+        int routed = draw_is_known(picture, node) && node != picture->table->own;
         fprintf(out, "<g class=\"node %s\"><title>", draw_state(picture, node));
         draw_node_words(picture, node);
         if (picture->table) {

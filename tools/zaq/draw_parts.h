@@ -24,7 +24,8 @@ struct picture {
     FILE *out;
     const struct house *house;
     const struct table *table;       /* NULL for the house alone */
-    uint8_t before[MOST_NODES + 1];  /* the node before a target on its route, 0 where no route is known */
+    const struct outcome *finished;  /* NULL for the house alone */
+    uint8_t route[MOST_ARCS];        /* the first hop of the routes along an arc, 0 where there are none */
     struct point place[MOST_NODES + 1], centre;
     struct curve curve[MOST_ARCS];
     int dense;

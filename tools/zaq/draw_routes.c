@@ -35,31 +35,31 @@ const char *draw_state(const struct picture *picture, unsigned node)
     return draw_distance(picture, node) == ZAQ_UNKNOWN ? "unknown" : "unreachable";
 }
 
-/* Whether a way that is as short as the table says, by the first hop that it says, can end with this arc. */
-static int may_be_last(const struct picture *picture, zaq_arc arc)
+/* Marks the arcs of the way to a target: each node on it hands sound to its own first hop, as zaq_route tells it. */
+static void mark_route(struct picture *picture, unsigned target)
 {
-    unsigned own = picture->table->own;
-    if (arc.head == own || !draw_is_known(picture, arc.tail) || !draw_is_known(picture, arc.head))
-        return 0;
-    unsigned hop = arc.tail == own ? arc.head : draw_hop(picture, arc.tail);
-    return draw_distance(picture, arc.tail) + arc.length == draw_distance(picture, arc.head) && hop == draw_hop(picture, arc.head);
+    const struct house *house = picture->house;
+    unsigned at = picture->table->own;
+    for (unsigned passed = 0; at != target && passed < house->n; passed++) {
+        unsigned hop = entry_of(table_of(house, picture->finished, at), target).hop;
+        int arc = draw_find_arc(house, at, hop);
+        if (arc < 0) /* never: a finished table has neighbours only */
+            return;
+        picture->route[arc] = (uint8_t)draw_hop(picture, target);
+        at = hop;
+    }
 }
 
-/* A table of this house, cut or whole, has a last arc for every known target, since nearer targets come first. Of several, the one from
- * the lowest number is drawn. */
+/* All ways to what the table knows. An arc has one colour: a node's ways to all targets beyond an arc have the same first hop, since each
+ * node takes the lowest one that is on a shortest way. */
 void draw_find_routes(struct picture *picture)
 {
-    for (unsigned node = 0; node <= MOST_NODES; node++)
-        picture->before[node] = 0;
-    for (size_t k = 0; picture->table && k < picture->house->arcs_len; k++) {
-        zaq_arc arc = picture->house->arcs[k];
-        uint8_t *before = &picture->before[arc.head];
-        if (may_be_last(picture, arc) && (*before == 0 || arc.tail < *before))
-            *before = arc.tail;
-    }
+    for (unsigned node = 1; picture->table && node <= picture->house->n; node++)
+        if (draw_is_known(picture, node))
+            mark_route(picture, node);
 }
 
 int draw_on_route(const struct picture *picture, size_t arc)
 {
-    return picture->before[picture->house->arcs[arc].head] == picture->house->arcs[arc].tail;
+    return picture->route[arc] != 0;
 }
