@@ -184,7 +184,10 @@ show_with_house() {
   to 3 (bar): distance 2, first hop node 2" show "$work/p4" --house "$house"
     ask show --house "$work/q" "$work"/p[45678] "$work/p10"
     verdict "all files of Q are of Q: $(cat "$work/err")" test "$status$(cat "$work/err")" = 0
-    another 'it has 1 nodes, and the house 3' 100100
+    # the second half byte is n less 1: a house of 1, of 2 and of 4
+    another 'it has 1 device, and the house 3' 100400
+    another 'it has 2 devices, and the house 3' 1014
+    another 'it has 4 devices, and the house 3' 1034
     another "its LMAX is 5, and the house's 4" 1025
     another 'from 1 to 2 it says distance 2 by 3, and the house distance 1 by 2' 10248910
     another 'from 1 to 2 it says unreachable, and the house distance 1 by 2' 102400

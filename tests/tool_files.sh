@@ -43,7 +43,7 @@ standard_input() {
 }
 
 unreadable() {
-    local command
+    local command size
     for command in 'check' 'routes' 'run' "run $work/two" 'unpack' 'show' "show $work/p4 --house" "draw $work/q"; do
         bad 2 "$work: Is a directory" $command "$work"
         bad 2 "$work/nothing: No such file or directory" $command "$work/nothing"
@@ -53,7 +53,16 @@ unreadable() {
     bad 2 "$work/p4/x: Not a directory" check "$work/p4/x"
     head -c 1048577 /dev/zero | tr '\0' ' ' > "$work/long"
     bad 2 "$work/long: too long: over 1048576 bytes" check "$work/long"
-    bad 2 "$work/long: too long: over 4096 bytes" show "$work/long"
+    # of a table file of any length, the library says what is wrong: version 2; n is 3, so target 16 is over n; bytes after the end mark
+    bad 1 "$work/long: refused 15: table file version not 1" show "$work/long"
+    bad 1 '/dev/zero: refused 15: table file version not 1' show /dev/zero
+    for size in 28 4095 4096 4097 70000; do
+        { bytes 1024; head -c "$((size - 2))" /dev/zero | tr '\0' '\377'; } > "$work/long"
+        bad 1 "$work/long: refused 17: a whole record of the file is wrong" show "$work/long"
+        { cat "$work/p4"; head -c "$((size - 6))" /dev/zero; } > "$work/long"
+        bad 1 "$work/long: refused 18: after the end mark, a bit not 0 or a further byte" show "$work/long"
+        bad 1 "$work/long: refused 18: after the end mark, a bit not 0 or a further byte" draw "$work/q" "$work/long"
+    done
     # a name that would write to the terminal, or begin a line of its own
     bad 2 "$work/a\\x0azaq\\x1b\\xff: No such file or directory" check "$work/a"$'\nzaq\x1b\xff'
 }
@@ -92,6 +101,71 @@ full_device() { # a device that is always full; as root one of our own, since a 
     elif mknod "$work/full" c 1 7 2> /dev/null && (echo > "$work/full") 2>&1 | grep -q 'No space left'; then
         echo "$work/full"
     fi
+}
+
+in_place() { # what is open already is written to where it stands: nothing before or after is lost
+    local old=$work/old name
+    rm -rf "$old"
+    mkdir "$old"
+    for name in /dev/stdout "$old/log" /dev/fd/1 -; do
+        printf 'before ' > "$old/log"
+        { "${zaq[@]}" write "$work/q" 1 -o "$name" && printf ' after'; } 2> "$work/err" >> "$old/log"
+        verdict "-o $name, appended: $(cat "$work/err")" cmp -s "$old/log" <(printf 'before '; cat "$work/p4"; printf ' after')
+        { printf 'before ' && "${zaq[@]}" write "$work/q" 1 -o "$name" && printf ' after'; } 2> "$work/err" > "$old/log"
+        verdict "-o $name, in the middle: $(cat "$work/err")" cmp -s "$old/log" <(printf 'before '; cat "$work/p4"; printf ' after')
+    done
+    printf 'before ' > "$old/log"
+    "${zaq[@]}" write "$work/q" 1 -o /dev/stderr 2>> "$old/log" > "$work/out"
+    verdict '-o /dev/stderr, appended' cmp -s "$old/log" <(printf 'before '; cat "$work/p4")
+    printf 'before ' > "$old/log"
+    "${zaq[@]}" write "$work/q" 1 -o /dev/fd/3 3>> "$old/log" > "$work/out"
+    verdict '-o /dev/fd/3, appended' cmp -s "$old/log" <(printf 'before '; cat "$work/p4")
+    # one that is open for reading only is replaced as any other
+    printf 'as it was' > "$old/log"
+    "${zaq[@]}" write "$work/q" 1 -o "$old/log" 3< "$old/log"
+    verdict 'a file that is open for reading' cmp -s "$old/log" "$work/p4"
+    verdict "only the log is there: $(ls -A "$old" | xargs)" test "$(ls -A "$old")" = log
+}
+
+own_input() { # own_input INPUT ARGUMENT..: the output is INPUT, which the call reads: refused, and INPUT stays as it was
+    local input=$1
+    shift
+    cp "$input" "$work/copy"
+    ask "$@"
+    fails ': this is also an input, and stays as it was; the output needs another name'
+    verdict "zaq $*: $input is not as it was" cmp -s "$input" "$work/copy"
+}
+
+inputs() {
+    local old=$work/old name
+    rm -rf "$old"
+    mkdir "$old"
+    cp examples/house.txt "$old/house.txt"
+    cp "$work/q" "$work/p4" "$work/steps" "$work/two" "$old"
+    ln -s house.txt "$old/link"
+    ln "$old/house.txt" "$old/hard"
+    for name in house.txt link hard ../old/house.txt; do own_input "$old/house.txt" pack "$old/house.txt" -o "$old/$name"; done
+    own_input "$old/q" unpack "$old/q" -o "$old/q"
+    own_input "$old/q" write "$old/q" 1 -o "$old/q"
+    own_input "$old/two" write "$old/two" "$old/steps" 1 -o "$old/two"
+    own_input "$old/steps" write "$old/two" "$old/steps" 1 -o "$old/steps"
+    own_input "$old/q" draw "$old/q" -o "$old/q"
+    own_input "$old/q" draw "$old/q" "$old/p4" -o "$old/q"
+    own_input "$old/p4" draw "$old/q" "$old/p4" -o "$old/p4"
+    own_input "$old/q" unpack - -o "$old/q" < "$old/q"
+    status=0
+    "${zaq[@]}" unpack "$old/q" 2> "$work/err" >> "$old/q" || status=$?
+    fails 'zaq: standard output: this is also an input, and stays as it was; the output needs another name'
+    verdict 'what is appended to is not as it was' cmp -s "$old/q" "$work/q"
+    # a word that is a node is no file; and what is no file cannot be destroyed
+    cp "$work/p10" "$old/1"
+    (cd "$old" && "${zaq[@]}" write q 1 -o 1)
+    verdict 'a file whose name is that of the node' cmp -s "$old/1" "$work/p4"
+    (cd "$old" && "${zaq[@]}" draw q 1 -o 1)
+    verdict 'a picture whose name is that of the node' grep -q '<svg' "$old/1"
+    bad 1 'refused 12: file wanted of a node not started' write "$work/q" /dev/null 1 -o /dev/null
+    verdict "only what was put there is there: $(ls -A "$old" | xargs)" \
+        test "$(ls -A "$old" | sort | xargs)" = '1 hard house.txt link p4 q steps two'
 }
 
 not_written() {
@@ -139,5 +213,7 @@ test_files() {
     standard_input
     unreadable
     written
+    in_place
+    inputs
     not_written
 }

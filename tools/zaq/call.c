@@ -93,9 +93,9 @@ static int sort_words(const struct command *command, int count, char **words, st
 /* Standard input can be read once. */
 static int reads_twice(const struct call *call)
 {
-    int standard = call->house && strcmp(call->house, "-") == 0;
+    int standard = call->house && is_standard(call->house);
     for (int k = 0; k < call->count; k++)
-        standard += strcmp(call->words[k], "-") == 0;
+        standard += is_standard(call->words[k]);
     return standard > 1;
 }
 

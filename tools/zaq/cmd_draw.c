@@ -34,16 +34,18 @@ static int table_of_file(const char *path, const struct house *house, struct tab
 int draw_command(const struct call *call)
 {
     const char *word = call->count > 1 ? call->words[1] : NULL;
+    uint64_t number;
+    int by_node = word && read_number(word, &number);
+    const char *const inputs[MOST_INPUTS] = {call->words[0], by_node ? NULL : word};
     struct house house;
     struct table table;
     struct outcome finished;
     struct output out;
-    uint64_t number;
     int status = load_house(call->words[0], form_of(call), &house);
     if (status == DONE && word)
-        status = (read_number(word, &number) ? table_of_node : table_of_file)(word, &house, &table, &finished);
+        status = (by_node ? table_of_node : table_of_file)(word, &house, &table, &finished);
     if (status == DONE)
-        status = open_output(&out, call->out);
+        status = open_output(&out, call->out, inputs);
     if (status)
         return status;
     if (draw_house(out.file, &house, word ? &table : NULL, word ? &finished : NULL))

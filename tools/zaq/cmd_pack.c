@@ -30,11 +30,12 @@ static void put_network(FILE *out, const struct house *house)
 /* A house of one form, written in the other. */
 static int convert(const struct call *call, enum form form, void (*put)(FILE *, const struct house *))
 {
+    const char *const inputs[MOST_INPUTS] = {call->words[0], NULL};
     struct house house;
     struct output out;
     int status = load_house(call->words[0], form, &house);
     if (status == DONE)
-        status = open_output(&out, call->out);
+        status = open_output(&out, call->out, inputs);
     if (status)
         return status;
     put(out.file, &house);

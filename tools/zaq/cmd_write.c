@@ -14,24 +14,24 @@ static int make_file(const char *path, const struct house *house, const struct b
 
 int write_command(const struct call *call)
 {
-    const char *path = call->words[0];
+    const char *const inputs[MOST_INPUTS] = {call->words[0], call->count > 2 ? call->words[1] : NULL};
     struct house house;
     struct bytes steps;
     struct output out;
     uint8_t file[ZAQ_FILE_ROOM];
     size_t file_len = 0;
     uint32_t node;
-    int status = load_house(path, form_of(call), &house);
+    int status = load_house(inputs[0], form_of(call), &house);
     if (status == DONE)
         status = read_node(call->words[call->count - 1], &house, &node);
     if (status == DONE)
-        status = load_steps(call->count > 2 ? call->words[1] : NULL, &house, &steps);
+        status = load_steps(inputs[1], &house, &steps);
     if (status)
         return status;
-    status = make_file(path, &house, &steps, node, file, &file_len);
+    status = make_file(inputs[0], &house, &steps, node, file, &file_len);
     free(steps.at);
     if (status == DONE)
-        status = open_output(&out, call->out);
+        status = open_output(&out, call->out, inputs);
     if (status)
         return status;
     fwrite(file, 1, file_len, out.file);

@@ -5,9 +5,14 @@
 
 enum { FIRST_ROOM = 4096 };
 
+int is_standard(const char *path)
+{
+    return strcmp(path, "-") == 0;
+}
+
 const char *input_name(const char *path)
 {
-    return strcmp(path, "-") == 0 ? "standard input" : path;
+    return is_standard(path) ? "standard input" : path;
 }
 
 int has_room(struct bytes *bytes, size_t more)
@@ -33,15 +38,23 @@ static int read_stream(FILE *file, const char *name, size_t most, struct bytes *
             return FAILED;
         got = fread(bytes->at + bytes->len, 1, FIRST_ROOM, file);
         bytes->len += got;
-        if (bytes->len > most)
-            return say_of(FAILED, name, "too long: over %lu bytes", (unsigned long)most);
-    } while (got > 0);
+    } while (got > 0 && bytes->len <= most);
     return ferror(file) ? say_failed(name) : DONE;
 }
 
-int read_bytes(const char *path, size_t most, struct bytes *bytes)
+/* Nothing is left on the heap after a status. */
+static int kept_or_freed(int status, struct bytes *bytes)
 {
-    int standard = strcmp(path, "-") == 0;
+    if (status) {
+        free(bytes->at);
+        bytes->at = NULL;
+    }
+    return status;
+}
+
+int read_beginning(const char *path, size_t most, struct bytes *bytes)
+{
+    int standard = is_standard(path);
     FILE *file = standard ? stdin : fopen(path, "rb");
     *bytes = (struct bytes){NULL, 0, 0};
     if (!file)
@@ -49,9 +62,13 @@ int read_bytes(const char *path, size_t most, struct bytes *bytes)
     int status = read_stream(file, input_name(path), most, bytes);
     if (!standard)
         fclose(file);
-    if (status) {
-        free(bytes->at);
-        bytes->at = NULL;
-    }
-    return status;
+    return kept_or_freed(status, bytes);
+}
+
+int read_bytes(const char *path, size_t most, struct bytes *bytes)
+{
+    int status = read_beginning(path, most, bytes);
+    if (status == DONE && bytes->len > most)
+        status = say_of(FAILED, input_name(path), "too long: over %lu bytes", (unsigned long)most);
+    return kept_or_freed(status, bytes);
 }

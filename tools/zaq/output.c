@@ -53,16 +53,42 @@ static int open_beside(struct output *out, const struct stat *old)
     return out->place ? make_temporary(out, old) : -1;
 }
 
-static int open_path(struct output *out, const char *path)
+static int is_same(const struct stat *one, const struct stat *other)
 {
-    struct stat old;
-    if (!path || strcmp(path, "-") == 0) {
-        out->path = "standard output";
-        return STDOUT_FILENO;
+    return one->st_dev == other->st_dev && one->st_ino == other->st_ino;
+}
+
+/* Whether a file is one of the inputs; a device or a pipe holds nothing that could be destroyed. */
+static int is_input(const struct stat *file, const char *const inputs[MOST_INPUTS])
+{
+    struct stat input;
+    for (int k = 0; k < MOST_INPUTS && S_ISREG(file->st_mode); k++)
+        if (inputs[k] && (is_standard(inputs[k]) ? fstat(STDIN_FILENO, &input) : stat(inputs[k], &input)) == 0 && is_same(file, &input))
+            return 1;
+    return 0;
+}
+
+/* The descriptor by which the caller has opened this file for writing, or -1. Its name may be /dev/stdout: replacing the file would lose
+ * what others write to it before and after. A shell's redirections have one digit. */
+static int find_open(const struct stat *file)
+{
+    struct stat other;
+    for (int number = STDOUT_FILENO; number <= 9; number++) {
+        int flags = fcntl(number, F_GETFL);
+        if (flags >= 0 && (flags & O_ACCMODE) != O_RDONLY && fstat(number, &other) == 0 && is_same(file, &other))
+            return number;
     }
-    int there = stat(path, &old) == 0;
+    return -1;
+}
+
+/* Opens what is there (`old`), or makes it. */
+static int open_path(struct output *out, const struct stat *old)
+{
+    int given = old ? find_open(old) : -1;
+    if (given >= 0)
+        return given;
     /* a device or a pipe is written to, not replaced; a folder is refused by the system */
-    return there && !S_ISREG(old.st_mode) ? open(path, O_WRONLY) : open_beside(out, there ? &old : NULL);
+    return old && !S_ISREG(old->st_mode) ? open(out->path, O_WRONLY) : open_beside(out, old);
 }
 
 /* Frees what the output holds, and gives the status; errno is still that of `why`. */
@@ -75,10 +101,14 @@ static int end(struct output *out, int status, int why)
     return why ? say_failed(out->path) : status;
 }
 
-int open_output(struct output *out, const char *path)
+int open_output(struct output *out, const char *path, const char *const inputs[MOST_INPUTS])
 {
-    *out = (struct output){.path = path};
-    out->to = open_path(out, path);
+    struct stat old;
+    int standard = !path || is_standard(path), there = (standard ? fstat(STDOUT_FILENO, &old) : stat(path, &old)) == 0;
+    *out = (struct output){.path = standard ? "standard output" : path};
+    if (there && is_input(&old, inputs))
+        return say_of(FAILED, out->path, "this is also an input, and stays as it was; the output needs another name");
+    out->to = standard ? STDOUT_FILENO : open_path(out, there ? &old : NULL);
     if (out->to >= 0)
         out->file = open_memstream(&out->text, &out->len);
     if (out->file)
@@ -111,7 +141,7 @@ int close_output(struct output *out, int status)
         why = write_all(out->to, out->text, out->len);
     if (!why && out->temporary && fsync(out->to) != 0)
         why = errno;
-    if (out->to != STDOUT_FILENO && close(out->to) != 0 && !why)
+    if (out->to > STDERR_FILENO && close(out->to) != 0 && !why)
         why = errno;
     if (!why && status == DONE && out->temporary && rename(out->temporary, out->place) != 0)
         why = errno;

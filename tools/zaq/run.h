@@ -48,7 +48,8 @@ struct table_file {
     struct table table;
 };
 
-/* Longer than any table file, and so refused by the library. */
+/* What the library says of a longer file is settled by so many bytes: they have room for sixteen records, of which one is wrong since only
+ * fifteen targets have one, or an end mark with a byte after it. */
 enum { MOST_FILE = 1 << 12 };
 /* Reads a table file: 0 and what the library makes of it, a refusal too; or a status that was told. */
 int read_table_file(const char *path, struct table_file *file);

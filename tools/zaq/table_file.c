@@ -20,7 +20,7 @@ int read_table_file(const char *path, struct table_file *file)
 {
     struct bytes bytes;
     memset(file, 0, sizeof *file);
-    int status = read_bytes(path, MOST_FILE, &bytes);
+    int status = read_beginning(path, MOST_FILE, &bytes);
     if (status)
         return status;
     uint32_t answer = zaq_read_table(bytes.at, bytes.len, file->table.entries, ZAQ_TABLE_ROOM);
@@ -50,7 +50,8 @@ int is_of_another(const struct table_file *file, const struct house *house, cons
 {
     char one[40], other[40];
     if (file->n != house->n) {
-        snprintf(reason, REASON_ROOM, "it has %u nodes, and the house %u", (unsigned)file->n, (unsigned)house->n);
+        snprintf(reason, REASON_ROOM, "it has %u device%s, and the house %u", (unsigned)file->n, file->n == 1 ? "" : "s",
+            (unsigned)house->n);
         return REFUSED;
     }
     if (file->lmax != house->lmax) {
