@@ -105,6 +105,29 @@ mistakes_of_a_name() {
     bad 1 "house.txt:2:11: found the control character U+001B, expected a name without any" pack "$work/house.txt" -o -
 }
 
+controlled() { # controlled PLACE BYTE TEXT: check and pack refuse the text for its control byte at this place
+    mistaken "$3" ' refused 2: network version not 1, or the fourth field not 0' \
+        "$1: found the control byte 0x$2, so the file is read as network bytes, expected none in a house text"
+    bad 1 "house.txt:$1: found the control byte 0x$2, expected none in a house text" pack "$work/house.txt" -o -
+    verdict "one mistake is told as $(wc -l < "$work/err")" test "$(wc -l < "$work/err")" = 1
+}
+
+mistakes_of_a_comment() {
+    local byte rest='\nlmax 4\ndevice 1\ndevice 2\n'
+    for byte in 00 01 0b 0c 1f; do
+        controlled 1:4 $byte "# \xc3\xbc\x$byte # \x$byte$rest"
+        # a byte order mark is no column
+        controlled 1:4 $byte "\xef\xbb\xbf# a\x$byte$rest"
+        controlled 2:8 $byte "\nlmax 4#\x$byte\ndevice 1\n"
+        controlled 5:23 $byte "${rest}link 1 -> 2 length 1#\t\x$byte"
+    done
+    # what is no control byte of network bytes may stand there
+    packs 101000 'lmax 1 # \t \r \x7f \xc2\x85\ndevice 1' 'a comment with other control characters'
+    says "$work/house.txt is accepted: 1 device, 0 arcs, LMAX 1" check "$work/house.txt"
+    # the column of another mistake after a byte order mark
+    mistaken '\xef\xbb\xbflmax 16\ndevice 1' '1:6: refused 3: LMAX outside 1 to 15 (LMAX 16), expected LMAX, a number from 1 to 15'
+}
+
 many_mistakes() {
     local text='lmax 99\n' k
     # one in every line: all are told in their order, whichever of the two passes has found them
@@ -179,6 +202,7 @@ test_house() {
     mistakes_of_a_line
     mistakes_of_a_link
     mistakes_of_a_name
+    mistakes_of_a_comment
     many_mistakes
     unpacked
 }

@@ -21,6 +21,7 @@ keep_all() {
     keep check 0 check "$work/hostile.txt"
     keep check_refused 1 check "$work/wrong_arc"
     keep check_text 1 check "$work/wrong.txt"
+    keep check_control 1 check "$work/control.txt"
     keep check_empty 1 check "$work/empty"
     keep routes 0 routes "$work/hostile.txt"
     keep route 0 routes "$work/two" 2 1
@@ -33,12 +34,13 @@ keep_all() {
 
 test_json() {
     if ! command -v python3 > /dev/null; then
-        echo 'JSON: not tried, there is no python3'
+        verdict 'JSON cannot be tried: python3 is missing' false
         return
     fi
     mkdir -p "$work/json"
     bytes 124004011121013204 > "$work/wrong_arc"
     printf 'lmax 4\ndevice 1 "\\"\nfoo"\\\xff\n' > "$work/wrong.txt"
+    printf '\xef\xbb\xbf# \x0c\nlmax 4\ndevice 1\n' > "$work/control.txt"
     : > "$work/empty"
     bytes 1024888c8441 > "$work/wrong_file"
     bytes 102400 > "$work/wrong_house"
@@ -76,6 +78,11 @@ same("check of a wrong arc", load("check_refused"), {
 same("check of a wrong text", load("check_text"), {
     "file": f"{work}/wrong.txt", "accepted": False, "refusal": None, "words": "the text has mistakes", "arc": None, "mistakes": [
         {"line": 3, "column": 1, "words": "found 'foo\"\\\\xff', expected lmax, device or link, or a comment after #"}],
+    "mistakes_in_all": 1})
+same("check of a text with a control byte", load("check_control"), {
+    "file": f"{work}/control.txt", "accepted": False, "refusal": 2, "words": "network version not 1, or the fourth field not 0",
+    "arc": None, "mistakes": [{"line": 1, "column": 3,
+        "words": "found the control byte 0x0c, so the file is read as network bytes, expected none in a house text"}],
     "mistakes_in_all": 1})
 same("check of nothing", load("check_empty"), {
     "file": f"{work}/empty", "accepted": False, "refusal": None, "words": "the file is empty", "arc": None, "mistakes": [],

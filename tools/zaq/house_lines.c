@@ -1,4 +1,4 @@
-/* The words of a line. */
+/* The lines of a text, and the words of a line. */
 #include "reading.h"
 #include <stdarg.h>
 #include <string.h>
@@ -6,6 +6,19 @@
 static int is_blank(uint8_t byte)
 {
     return byte == ' ' || byte == '\t';
+}
+
+const uint8_t *skip_mark(const uint8_t *text, const uint8_t *end)
+{
+    static const uint8_t mark[] = {0xef, 0xbb, 0xbf};
+    return (size_t)(end - text) >= sizeof mark && memcmp(text, mark, sizeof mark) == 0 ? text + sizeof mark : text;
+}
+
+const uint8_t *find_control(const uint8_t *at, const uint8_t *end)
+{
+    while (at < end && (*at >= 0x20 || *at == '\t' || *at == '\r' || *at == '\n'))
+        at++;
+    return at;
 }
 
 const uint8_t *cut_line(const uint8_t *from, const uint8_t *end, size_t number, struct line *line)
@@ -83,8 +96,13 @@ int take_number(struct reading *reading, struct line *line, const char *expected
 int take_end(struct reading *reading, struct line *line)
 {
     skip_blanks(line);
-    if (line->at == line->end || *line->at == '#')
-        return 1;
-    not_expected(reading, line, line->at, "the end of the line, or a comment after #");
-    return 0;
+    if (line->at < line->end && *line->at != '#') {
+        not_expected(reading, line, line->at, "the end of the line, or a comment after #");
+        return 0;
+    }
+    /* a comment may hold anything, but by such a byte a file that may be either is taken for network bytes */
+    const uint8_t *control = find_control(line->at, line->end);
+    if (control < line->end)
+        mistake_at(reading, line, control, "found the control byte 0x%02x, expected none in a house text", (unsigned)*control);
+    return control == line->end;
 }

@@ -85,9 +85,11 @@ static void read_line(struct reading *reading, struct line *line)
 {
     skip_blanks(line);
     const uint8_t *place = line->at;
-    if (line->at == line->end || *line->at == '#' || take_word(line, "link"))
+    if (line->at == line->end || take_word(line, "link"))
         return;
-    if (take_word(line, "lmax"))
+    if (*line->at == '#')
+        take_end(reading, line);
+    else if (take_word(line, "lmax"))
         read_lmax(reading, line);
     else if (take_word(line, "device"))
         read_device(reading, line);
@@ -141,11 +143,9 @@ static void read_whole(struct reading *reading, const struct line *last)
 
 int house_of_text(const uint8_t *text, size_t text_len, struct house *house, struct mistakes *mistakes)
 {
-    static const uint8_t mark[] = {0xef, 0xbb, 0xbf}; /* the byte order mark, which some editors put first */
     struct reading reading = {.house = house, .mistakes = mistakes};
     const uint8_t *end = text + text_len;
-    if (text_len >= sizeof mark && memcmp(text, mark, sizeof mark) == 0)
-        text += sizeof mark;
+    text = skip_mark(text, end);
     memset(house, 0, sizeof *house);
     mistakes->count = 0;
     struct line last = each_line(&reading, text, end, read_line);

@@ -55,26 +55,20 @@ int house_of_network(const uint8_t *net, size_t net_len, struct house *house, st
     }
 }
 
-/* The first control byte that no text has; `end` if there is none. */
-static const uint8_t *find_control(const uint8_t *at, const uint8_t *end)
-{
-    while (at < end && (*at >= 0x20 || *at == '\t' || *at == '\r' || *at == '\n'))
-        at++;
-    return at;
-}
-
 /* Somebody's text with one control byte in it must not be told that its network version is wrong, and nothing else. */
-static void place_control(const uint8_t *text, const uint8_t *control, struct fault *fault)
+static void place_control(const uint8_t *text, const uint8_t *control, struct mistakes *mistakes)
 {
+    char words[120];
+    size_t line = 1, column = 1;
     uint32_t value;
-    fault->line = 1;
-    fault->column = 1;
-    fault->control = *control;
-    for (const uint8_t *at = text; at < control;) {
-        fault->column = *at == '\n' ? 1 : fault->column + 1;
-        fault->line += *at == '\n';
+    for (const uint8_t *at = skip_mark(text, control); at < control;) {
+        column = *at == '\n' ? 1 : column + 1;
+        line += *at == '\n';
         at += character(at, control, &value);
     }
+    snprintf(words, sizeof words, "found the control byte 0x%02x, so the file is read as network bytes, expected none in a house text",
+        (unsigned)*control);
+    add_mistake(mistakes, line, column, words);
 }
 
 int read_house(const char *path, enum form form, struct house *house, struct fault *fault)
@@ -93,7 +87,7 @@ int read_house(const char *path, enum form form, struct house *house, struct fau
     else {
         status = house_of_network(bytes.at, bytes.len, house, fault);
         if (status && form == EITHER && control > bytes.at)
-            place_control(bytes.at, control, fault);
+            place_control(bytes.at, control, &fault->mistakes);
     }
     free(bytes.at);
     return status;
@@ -114,21 +108,12 @@ int tell_fault(const char *path, const struct fault *fault)
     const char *name = input_name(path);
     if (fault->empty)
         return say_of(REFUSED, name, "the file is empty, expected a house text or network bytes");
-    if (!fault->refusal) {
-        tell_mistakes(name, &fault->mistakes);
-        return REFUSED;
-    }
     if (fault->arc_number)
         say_of(REFUSED, name, "refused %u: %s: arc %u, from %u to %u, length %u", (unsigned)fault->refusal, zaq_words(fault->refusal),
             (unsigned)fault->arc_number, (unsigned)fault->arc.tail, (unsigned)fault->arc.head, (unsigned)fault->arc.length);
-    else
+    else if (fault->refusal)
         say_refused(name, fault->refusal);
-    if (fault->line) {
-        char words[120];
-        snprintf(words, sizeof words, "found the control byte 0x%02x, so the file is read as network bytes, expected none in a house text",
-            fault->control);
-        say_at(REFUSED, name, fault->line, fault->column, words);
-    }
+    tell_mistakes(name, &fault->mistakes);
     return REFUSED;
 }
 

@@ -28,9 +28,7 @@ struct fault {
     uint32_t refusal;   /* the library's, for network bytes */
     size_t arc_number;  /* the arc that it is about, from 1; 0 if none */
     zaq_arc arc;
-    size_t line, column; /* of the control byte for which a text was taken for network bytes; 0 if it was not */
-    unsigned control;
-    struct mistakes mistakes;
+    struct mistakes mistakes; /* of a text, or the control byte for which a text was taken for network bytes */
 };
 
 /* What a file may hold. Where it may be either, it is network bytes if it has a control byte other than tab, CR and LF; every network that
@@ -46,4 +44,9 @@ int load_house(const char *path, enum form form, struct house *house);
 /* The parts: a house from network bytes and from text; 0 or REFUSED. */
 int house_of_network(const uint8_t *net, size_t net_len, struct house *house, struct fault *fault);
 int house_of_text(const uint8_t *text, size_t text_len, struct house *house, struct mistakes *mistakes);
+
+/* Where a text begins: after the byte order mark, which some editors put first and which is no column. */
+const uint8_t *skip_mark(const uint8_t *text, const uint8_t *end);
+/* The first control byte that no text has; `end` if there is none. */
+const uint8_t *find_control(const uint8_t *at, const uint8_t *end);
 #endif
