@@ -15,12 +15,24 @@ keep() { # keep NAME STATUS ARGUMENT..: the JSON of a call, for python; messages
 }
 
 keep_all() {
+    local command
     hostile_house > "$work/hostile.txt"
     says "from 1 (\"\\\\\"/</script>&\\u0041) to 2 (%s%n{}[],:#): distance 1, first hop 2 (%s%n{}[],:#)
   1 (\"\\\\\"/</script>&\\u0041) -> 2 (%s%n{}[],:#), length 1" routes "$work/hostile.txt" 1 2
     keep check 0 check "$work/hostile.txt"
     keep check_refused 1 check "$work/wrong_arc"
     keep check_text 1 check "$work/wrong.txt"
+    keep check_unread 2 check "$work/nothing"
+    # a house that is refused or not read has the same object everywhere
+    for command in routes run "show $work/p4 --house"; do
+        keep refused_elsewhere 1 $command "$work/wrong_arc"
+        verdict "zaq $command --json tells a refused house otherwise" cmp -s "$work/json/refused_elsewhere" "$work/json/check_refused"
+        keep unread_elsewhere 2 $command "$work/nothing"
+        verdict "zaq $command --json tells a missing house otherwise" cmp -s "$work/json/unread_elsewhere" "$work/json/check_unread"
+    done
+    bad 1 'refused 11: node or target outside 1 to n' routes "$work/q" 4 --json
+    bad 2 "$work/nothing: No such file or directory" run "$work/q" "$work/nothing" --json
+    bad 2 'check: unknown option --foo' check "$work/q" --json --foo
     keep check_control 1 check "$work/control.txt"
     keep check_empty 1 check "$work/empty"
     keep routes 0 routes "$work/hostile.txt"
@@ -84,6 +96,9 @@ same("check of a text with a control byte", load("check_control"), {
     "arc": None, "mistakes": [{"line": 1, "column": 3,
         "words": "found the control byte 0x0c, so the file is read as network bytes, expected none in a house text"}],
     "mistakes_in_all": 1})
+same("check of no file", load("check_unread"), {
+    "file": f"{work}/nothing", "accepted": False, "refusal": None, "words": "the file could not be read", "arc": None, "mistakes": [],
+    "mistakes_in_all": 0})
 same("check of nothing", load("check_empty"), {
     "file": f"{work}/empty", "accepted": False, "refusal": None, "words": "the file is empty", "arc": None, "mistakes": [],
     "mistakes_in_all": 0})

@@ -15,55 +15,67 @@ static void put_mistakes(const struct mistakes *mistakes)
     printf("], \"mistakes_in_all\": %lu", (unsigned long)mistakes->count);
 }
 
-static void put_fault(const struct fault *fault)
+static const char *words_of(int status, const struct fault *fault)
+{
+    if (status == FAILED)
+        return "the file could not be read";
+    return fault->refusal ? zaq_words(fault->refusal) : fault->empty ? "the file is empty" : "the text has mistakes";
+}
+
+static void put_fault(int status, const struct fault *fault)
 {
     const zaq_arc *arc = &fault->arc;
     if (fault->refusal)
         printf("\"refusal\": %u, \"words\": ", (unsigned)fault->refusal);
     else
         fputs("\"refusal\": null, \"words\": ", stdout);
-    put_json(stdout, fault->refusal ? zaq_words(fault->refusal) : fault->empty ? "the file is empty" : "the text has mistakes");
+    put_json(stdout, words_of(status, fault));
     if (fault->arc_number)
         printf(", \"arc\": {\"number\": %lu, \"tail\": %u, \"head\": %u, \"length\": %u}, ", (unsigned long)fault->arc_number,
             (unsigned)arc->tail, (unsigned)arc->head, (unsigned)arc->length);
     else
         fputs(", \"arc\": null, ", stdout);
     put_mistakes(&fault->mistakes);
+    fputs("}\n", stdout);
 }
 
-static void put_check(const char *name, int status, const struct house *house, const struct fault *fault)
+static void put_verdict(const char *path, int accepted)
 {
     fputs("{\"file\": ", stdout);
-    put_json(stdout, name);
-    printf(", \"accepted\": %s, ", json_truth(status == DONE));
-    if (status == DONE) {
-        put_json_devices(stdout, house);
-        printf(", \"arcs\": %lu, \"lmax\": %u", (unsigned long)house->arcs_len, (unsigned)house->lmax);
-    } else {
-        put_fault(fault);
+    put_json(stdout, input_name(path));
+    printf(", \"accepted\": %s, ", json_truth(accepted));
+}
+
+int load_or_answer(const struct call *call, const char *path, struct house *house)
+{
+    struct fault fault;
+    int status = read_house(path, form_of(call), house, &fault);
+    if (status == REFUSED)
+        tell_fault(path, &fault);
+    if (status && call->json) {
+        put_verdict(path, 0);
+        put_fault(status, &fault);
     }
-    fputs("}\n", stdout);
+    return status;
 }
 
 int check_command(const struct call *call)
 {
     struct house house;
-    struct fault fault;
-    const char *name = input_name(call->words[0]);
-    int status = read_house(call->words[0], form_of(call), &house, &fault);
-    if (status == REFUSED)
-        tell_fault(call->words[0], &fault);
-    if (status == FAILED)
+    int status = load_or_answer(call, call->words[0], &house);
+    if (status)
         return status;
     if (call->json) {
-        put_check(name, status, &house, &fault);
-    } else if (status == DONE) {
-        put_shown(stdout, name);
+        put_verdict(call->words[0], 1);
+        put_json_devices(stdout, &house);
+        printf(", \"arcs\": %lu, \"lmax\": %u}\n", (unsigned long)house.arcs_len, (unsigned)house.lmax);
+    } else {
+        put_shown(stdout, input_name(call->words[0]));
         fputs(" is accepted: ", stdout);
         put_number(stdout, house.n, "device");
         fputs(", ", stdout);
         put_number(stdout, house.arcs_len, "arc");
         printf(", LMAX %u\n", (unsigned)house.lmax);
     }
-    return status;
+    return DONE;
 }

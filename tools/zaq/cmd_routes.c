@@ -136,7 +136,7 @@ int routes_command(const struct call *call)
     struct house house;
     struct outcome outcome;
     struct asked asked = {.house = &house};
-    int status = load_house(call->words[0], form_of(call), &house);
+    int status = load_or_answer(call, call->words[0], &house);
     if (status == DONE)
         status = read_asked(call, &asked);
     if (status == DONE)

@@ -183,7 +183,7 @@ int run_command(const struct call *call)
     uint64_t every = 0;
     if (call->every && (!read_number(call->every, &every) || every == 0))
         return say(FAILED, "--every needs a number of steps from 1 on, not '%s'", quote_word(&quote, call->every));
-    int status = load_house(call->words[0], form_of(call), &house);
+    int status = load_or_answer(call, call->words[0], &house);
     if (status == DONE)
         status = load_steps(call->count > 1 ? call->words[1] : NULL, &house, &steps);
     if (status)

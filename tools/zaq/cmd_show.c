@@ -102,7 +102,7 @@ int show_command(const struct call *call)
     struct showing showing = {.json = call->json, .house = call->house ? &house : NULL};
     if (call->net && !call->house)
         return say(FAILED, "show: --net says how the file of --house is read, and there is no --house");
-    int status = call->house ? load_house(call->house, form_of(call), &house) : DONE;
+    int status = call->house ? load_or_answer(call, call->house, &house) : DONE;
     if (status == DONE && call->house)
         status = finish(&house, &showing.finished);
     if (status)

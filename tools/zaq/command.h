@@ -28,6 +28,8 @@ const struct command *find_command(const char *name);
 int read_call(const struct command *command, int count, char **words, struct call *call);
 /* How a call's house is to be read. */
 enum form form_of(const struct call *call);
+/* The house of a call: 0, or a status after messages and, with --json, after the object by which check answers. */
+int load_or_answer(const struct call *call, const char *path, struct house *house);
 /* A node of the house, as a word: 0, or a status after a message. Whether there is a node of this number is the library's to say. */
 int read_node(const char *word, const struct house *house, uint32_t *node);
 /* A number that is nothing but digits; a greater one than can be held is the greatest. */
