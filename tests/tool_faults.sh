@@ -86,6 +86,16 @@ right_words() {
         test "$(cd "$work" && "${zaq[@]}" check -- -x)" = '-x is accepted: 3 devices, 4 arcs, LMAX 4'
     verdict 'after -- not even a known one' \
         test "$(cd "$work" && "${zaq[@]}" check -- --json)" = '--json is accepted: 3 devices, 4 arcs, LMAX 4'
+    says 'standard input is accepted: 3 devices, 4 arcs, LMAX 4' check -- - < "$work/q"
+    ask help
+    verdict 'zaq help says what - is after --' grep -qF 'After -- no word is an option, but - is still standard input.' "$work/out"
+    verdict 'zaq.1 says what - is after --' grep -qF 'no word after it is an option, but' tools/zaq/zaq.1
+    # each word that zaq help house explains, at the beginning of a line
+    ask help house
+    for command in $(sed -nE 's/^([a-z]+)  .*/\1/p' "$work/out"); do
+        verdict "zaq.1 does not name the word $command" grep -qE "^\.BI? $command\b" tools/zaq/zaq.1
+        verdict "docs/HOUSE.md does not name the word $command" grep -qF "| \`$command " docs/HOUSE.md
+    done
 }
 
 test_faults() {

@@ -57,8 +57,9 @@ static const struct command commands[] = {
 static const char common_help[] =
     "HOUSE is a house text, NET network bytes. Where either may stand, a file is taken\n"
     "for network bytes if it has a control byte other than tab, CR and LF, or if --net\n"
-    "is given. The name - is standard input, or standard output after -o. After --\n"
-    "every word is taken as it is.\n"
+    "is given. The name - is standard input, or standard output after -o.\n"
+    "After -- no word is an option, but - is still standard input.\n"
+    "A file that is read is not written to as well: -o needs another name.\n"
     "Exit status: 0 done; 1 refused; 2 wrong use, or a file could not be read or\n"
     "written.\n";
 
