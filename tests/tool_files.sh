@@ -153,10 +153,12 @@ inputs() {
     own_input "$old/q" draw "$old/q" "$old/p4" -o "$old/q"
     own_input "$old/p4" draw "$old/q" "$old/p4" -o "$old/p4"
     own_input "$old/q" unpack - -o "$old/q" < "$old/q"
-    status=0
-    "${zaq[@]}" unpack "$old/q" 2> "$work/err" >> "$old/q" || status=$?
-    fails 'zaq: standard output: this is also an input, and stays as it was; the output needs another name'
-    verdict 'what is appended to is not as it was' cmp -s "$old/q" "$work/q"
+    for name in - /dev/stdout; do
+        status=0
+        "${zaq[@]}" unpack "$old/q" -o "$name" 2> "$work/err" >> "$old/q" || status=$?
+        fails ': this is also an input, and stays as it was; the output needs another name'
+        verdict "-o $name, appended to its input, which is not as it was" cmp -s "$old/q" "$work/q"
+    done
     # a word that is a node is no file; and what is no file cannot be destroyed
     cp "$work/p10" "$old/1"
     (cd "$old" && "${zaq[@]}" write q 1 -o 1)

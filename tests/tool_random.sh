@@ -45,6 +45,12 @@ whole_run() { # all nodes start, then every arc delivers 300 times: more than an
     for ((k = 0; k < 300; k++)); do printf "$round"; done
 }
 
+right_routes() { # right_routes SEED: the routes are those that follow from the independent program's finished tables
+    { cat "$work/net"; whole_run; } | "$independent" print > "$work/right"
+    ask routes "$work/net"
+    verdict "seed $1: the routes are told otherwise" cmp -s "$work/out" <(as_routes < "$work/right")
+}
+
 accepted() { # accepted SEED: the network comes back from a text, and runs and routes are right
     ask run --net "$work/net" "$work/recording"
     verdict "seed $1: the run is told otherwise" cmp -s <(as_printed < "$work/out") "$work/right"
@@ -54,9 +60,7 @@ accepted() { # accepted SEED: the network comes back from a text, and runs and r
     ask unpack "$work/net" -o "$work/net.txt"
     ask pack "$work/net.txt" -o "$work/again"
     verdict "seed $1: packed again, the network is another one" cmp -s "$work/net" "$work/again"
-    { cat "$work/net"; whole_run; } | "$independent" print > "$work/right"
-    ask routes "$work/net"
-    verdict "seed $1: the routes are told otherwise" cmp -s "$work/out" <(as_routes < "$work/right")
+    right_routes "$1"
 }
 
 find_independent() {
