@@ -118,8 +118,8 @@ in_place() { # what is open already is written to where it stands: nothing befor
     "${zaq[@]}" write "$work/q" 1 -o /dev/stderr 2>> "$old/log" > "$work/out"
     verdict '-o /dev/stderr, appended' cmp -s "$old/log" <(printf 'before '; cat "$work/p4")
     printf 'before ' > "$old/log"
-    "${zaq[@]}" write "$work/q" 1 -o /dev/fd/3 3>> "$old/log" > "$work/out"
-    verdict '-o /dev/fd/3, appended' cmp -s "$old/log" <(printf 'before '; cat "$work/p4")
+    "${zaq[@]}" write "$work/q" 1 -o /dev/fd/12 12>> "$old/log" > "$work/out"
+    verdict '-o /dev/fd/12, appended' cmp -s "$old/log" <(printf 'before '; cat "$work/p4")
     # one that is open for reading only is replaced as any other
     printf 'as it was' > "$old/log"
     "${zaq[@]}" write "$work/q" 1 -o "$old/log" 3< "$old/log"

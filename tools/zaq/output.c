@@ -69,11 +69,12 @@ static int is_input(const struct stat *file, const char *const inputs[MOST_INPUT
 }
 
 /* The descriptor by which the caller has opened this file for writing, or -1. Its name may be /dev/stdout: replacing the file would lose
- * what others write to it before and after. A shell's redirections have one digit. */
+ * what others write to it before and after. */
 static int find_open(const struct stat *file)
 {
+    enum { LAST = 255 }; /* shells hand over lower ones */
     struct stat other;
-    for (int number = STDOUT_FILENO; number <= 9; number++) {
+    for (int number = STDOUT_FILENO; number <= LAST; number++) {
         int flags = fcntl(number, F_GETFL);
         if (flags >= 0 && (flags & O_ACCMODE) != O_RDONLY && fstat(number, &other) == 0 && is_same(file, &other))
             return number;
