@@ -1,7 +1,7 @@
 -- What the public calls that take a table file answer, and what they leave in a lent room; and what a file that is written leaves there.
 use mathlib.Core.Path.{_≡_}
 use mathlib.Core.List.{List, _++_}
-use Prim.Native.Nat.{ℕ, _*_}
+use Prim.Native.Nat.{ℕ, _*_, _<_}
 use lib.ListN.{length}
 use Rattle.bits.specs.Bits.{bitsOf}
 use Rattle.method.specs.Room.{begins}
@@ -53,6 +53,11 @@ outcomeRefusal (Refused r) = r
 abbrev pub outcomeAnswer : Outcome → ℕ
 outcomeAnswer (Written k) = values k 0
 outcomeAnswer (Refused r) = r .number
+
+-- an outcome that one answer has room for
+abbrev pub OneAnswer : Outcome → Type 0
+OneAnswer (Written k) = k < 256
+OneAnswer (Refused r) = Unit {0}
 
 -- zaq_read_entry
 abbrev pub ReadPromise : List ℕ → ℕ → ℕ → Type 0

@@ -1,10 +1,10 @@
 -- `read_entry`: what the reader answers, as one number.
 use mathlib.Core.Path.{_∙_}
-use Rattle.call_file.proofs.Read.{entry-answer, refused-answer}
+use Rattle.call_read.proofs.Read.{entry-answer, refused-answer}
 use native.Mathlib.Omega.{arith}
 use borrow.Author.Needs.{needs}
-use Rattle.call_file.proofs.read_entry.Statement.{statement}
-use Rattle.call_file.proofs.read_entry.Tie as tie
+use Rattle.call_read.proofs.read_entry.Statement.{statement}
+use Rattle.call_read.proofs.read_entry.Tie as tie
 
 read-entry-requires : tie.Need-read-entry-requires
 read-entry-requires c κs = search needs

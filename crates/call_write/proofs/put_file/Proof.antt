@@ -1,11 +1,11 @@
 -- `put_file`: the entries after the first, lent in place.
 use Prim.Native.Nat.{_+_, _-_, _*_}
 use Rattle.run_cells.specs.Part.{targetsAt, distancesAt, hopsAt, partSize}
-use Rattle.call_file.proofs.Held.{fifteen, lent-file, same-written}
+use Rattle.call_write.proofs.Held.{fifteen, lent-file, same-written}
 use native.Mathlib.Omega.{arith}
 use borrow.Author.Needs.{needs}
-use Rattle.call_file.proofs.put_file.Statement.{statement}
-use Rattle.call_file.proofs.put_file.Tie as tie
+use Rattle.call_write.proofs.put_file.Statement.{statement}
+use Rattle.call_write.proofs.put_file.Tie as tie
 
 get-requires : tie.Need-get-requires
 get-requires c κs = search needs

@@ -1,10 +1,10 @@
 -- `packed`: by what was answered.
 use mathlib.Core.Path.{sym, ap, _∙_}
 use Rattle.call.specs.Files.{outcomeAnswer}
 use native.Mathlib.Omega.{arith}
 use borrow.Author.Needs.{needs}
-use Rattle.call_file.proofs.packed.Statement.{statement}
-use Rattle.call_file.proofs.packed.Tie as tie
+use Rattle.call.proofs.packed.Statement.{statement}
+use Rattle.call.proofs.packed.Tie as tie
 
 enum-known-o : tie.Need-enum-known-o
 enum-known-o c = search needs

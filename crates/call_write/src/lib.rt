@@ -1,4 +1,4 @@
-// Table files for the firmware and for service desks: one node's file written after a run, and entries read from a file.
+// One node's table file, written after a run.
 ghost use mathlib.Core.Path.{_≡_};
 ghost use Prim.Native.Nat.{_≤_};
 ghost use lib.ListN.{length};
@@ -6,28 +6,16 @@ ghost use Rattle.method.specs.Network.{IsNode};
 ghost use Rattle.network.specs.Layout.{netOf, Laid};
 ghost use Rattle.network.specs.Found.{Consistent};
 ghost use Rattle.run_cells.specs.Part.{cells, stateSize, entryCount};
-ghost use Rattle.call.specs.Files.{outcome, roomAfter, outcomeAnswer, ReadPromise, TablePromise};
+ghost use Rattle.call.specs.Files.{outcome, roomAfter};
 ghost use Rattle.call.specs.Kept.{Writes};
-ghost use Rattle.call_file.specs.Filing.{heldFile, OneAnswer};
+ghost use Rattle.call_write.specs.Filing.{heldFile};
 use network::Found;
 use network::LAYOUT;
 use run_cells::*;
-use table::Answer;
 use table::Outcome;
 
 // A record for each other node of a house of sixteen.
 const MOST_RECORDS: usize = 15;
-
-// How many numbers were written, or the refusal's number, as one answer.
-fn packed(o: Outcome) -> u32
-    requires { ⌜ OneAnswer o ⌝ }
-    ensures { λ r. ⌜ r ≡ outcomeAnswer o ⌝ }
-{
-    match o {
-        Outcome::Written(k) => call::values(k as u32, 0),
-        Outcome::Refused(r) => r.number,
-    }
-}
 
 // Writes the file of node i, which has started. The first entry that it filled is its own; the others lie in the array as the writer
 // asks for them, so they are lent in place.
@@ -74,23 +62,5 @@ pub fn write(found: Found, steps: &[u8], node: u32, room: &mut [u8]) -> u32
     if get(&s, i, PHASE) == 0 {
         return 12;
     }
-    packed(put_file(&found.laid, &s, i, room))
-}
-
-// The entry for a target in a table file. Refusals 14 to 18, then 11.
-pub fn read_entry(file: &[u8], target: u32) -> u32
-    ensures { λ r. ⌜ ReadPromise (now (file .entry)) target r ⌝ }
-{
-    let read = table_reader::read_entry(file, target);
-    match read {
-        Answer::Entry(distance, hop) => call::values(hop as u32, distance.0 as u32),
-        Answer::Refused(r) => r.number,
-    }
-}
-
-// All entries of a table file of n nodes, as 2 * n numbers from the room's start on. Refusals 14 to 18, then 13.
-pub fn read_table(file: &[u8], room: &mut [u16]) -> u32
-    ensures { λ r. ⌜ TablePromise (now (file .entry)) (now (room .entry)) r (now (room .exit)) ⌝ }
-{
-    packed(table_reader::read_entries(file, room))
+    call::packed(put_file(&found.laid, &s, i, room))
 }

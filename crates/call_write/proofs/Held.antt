@@ -15,7 +15,7 @@ use Rattle.table.specs.File.{one, fileOf, headerFor}
 use Rattle.call.specs.Files.{outcome, roomAfter}
 use Rattle.table_writer.specs.Lent.{listed, lent, lentFile}
 use Rattle.table.specs.declared.Outcome.{Outcome}
-use Rattle.call_file.specs.Filing.{afterFirst, heldFile}
+use Rattle.call_write.specs.Filing.{afterFirst, heldFile}
 
 -- the 15 numbers after the first of those from place o on, in part i
 abbrev pub part : List ℕ → ℕ → ℕ → List ℕ

@@ -1,10 +1,10 @@
 -- `read_table`: what the reader answers, as one number.
 use Rattle.call.specs.Files.{outcomeAnswer}
-use Rattle.call_file.proofs.Read.{table-fits}
+use Rattle.call_read.proofs.Read.{table-fits}
 use mathlib.Core.Path.{ap, _∙_}
 use borrow.Author.Needs.{needs}
-use Rattle.call_file.proofs.read_table.Statement.{statement}
-use Rattle.call_file.proofs.read_table.Tie as tie
+use Rattle.call_read.proofs.read_table.Statement.{statement}
+use Rattle.call_read.proofs.read_table.Tie as tie
 
 read-entries-requires : tie.Need-read-entries-requires
 read-entries-requires c κs = search needs

@@ -32,8 +32,9 @@ use Rattle.call.specs.Calls.{nodesOf, isUnstarted, fileAfter, lateRows, writeRo
 use Rattle.call.specs.Promises.{WritePromise}
 use Rattle.call.proofs.Ten.{never-ten}
 use Rattle.call.proofs.Found.{refused-first, is-refused, others-tell, accepted, of-meant}
-use Rattle.call_file.specs.Filing.{heldFile, OneAnswer}
-use Rattle.call_file.proofs.Records.{held-file}
+use Rattle.call.specs.Files.{OneAnswer}
+use Rattle.call_write.specs.Filing.{heldFile}
+use Rattle.call_write.proofs.Records.{held-file}
 
 -- a phase by its number
 unstarted-is : (p : ℕ) → p ≡ 0 → phaseNamed p ≡ unstarted

@@ -15,10 +15,8 @@ use Rattle.table.specs.declared.Outcome.{Outcome}
 use Rattle.table.specs.declared.Outcome.the-variants.{Written, Refused as RefusedRoom}
 use Rattle.table.proofs.Small.{hop-small}
 use Rattle.call.specs.Answers.{values}
-use Rattle.call.specs.Files.{readAnswer, entriesOutcome}
+use Rattle.call.specs.Files.{readAnswer, entriesOutcome, OneAnswer}
 use Rattle.call.proofs.FilesSmall.{numbers-small}
-use Rattle.call_file.specs.Filing.{OneAnswer}
-
 -- an entry
 module _ (s : List ℕ) (y : ℕ) (a : Answer) (is : a ≡ answerOf (entryRead one s y)) (d : Distance) (h : ℕ) (e : a ≡ Entry d h) where
   said : (r : Read) → entryRead one s y ≡ r → Entry d h ≡ answerOf r → (h < 256) × (values h (d .0) ≡ readAnswer r)

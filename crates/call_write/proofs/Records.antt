@@ -23,7 +23,7 @@ use Rattle.run_cells.specs.Part.{Part, entryCount, targetsAt, entryAt, tableFro
 use Rattle.run.specs.Ran.{Ran}
 use Rattle.run_entries.proofs.Reading.{ran-records}
 use Rattle.table.specs.File.{one, fileOf, headerFor, nodeFile}
-use Rattle.call_file.specs.Filing.{afterFirst, heldFile}
+use Rattle.call_write.specs.Filing.{afterFirst, heldFile}
 
 -- what puts node i's own entry first: it is there once, it alone has distance 0, and distances rise
 record OwnFirst (lmax i : ℕ) (es : List Filled) : Type 0 where

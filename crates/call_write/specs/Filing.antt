@@ -1,13 +1,11 @@
--- What the inner functions promise: a node's file out of the run's array, and an outcome that is one answer.
-use Prim.Native.Nat.{ℕ, zero, suc, _-_, _<_}
+-- What the inner function promises: a node's file out of the run's array.
+use Prim.Native.Nat.{ℕ, zero, suc, _-_}
 use mathlib.Core.List.{List, [], _∷_}
 use Rattle.method.specs.Rules.{Filled}
 use Rattle.method.specs.Entries.{isStopped}
 use Rattle.network.specs.Layout.{netOf}
 use Rattle.run_cells.specs.Part.{Part, entryCount, entryAt, siteOf}
 use Rattle.table.specs.File.{one, fileOf, headerFor}
-use Rattle.table.specs.declared.Outcome.{Outcome}
-use Rattle.table.specs.declared.Outcome.the-variants.{Written, Refused}
 
 -- the k entries that were filled right after the first, newest first
 abbrev pub afterFirst : Part → ℕ → List Filled
@@ -17,8 +15,3 @@ afterFirst f (suc k) = entryAt f (suc k) ∷ afterFirst f k
 -- the file that node i's part holds, where its first entry is its own
 abbrev pub heldFile : List ℕ → ℕ → Part → List ℕ
 heldFile g i f = fileOf one (headerFor (netOf g) i) (afterFirst f (f entryCount - 1)) (isStopped (siteOf f))
-
--- an outcome that one answer has room for
-abbrev pub OneAnswer : Outcome → Type 0
-OneAnswer (Written k) = k < 256
-OneAnswer (Refused r) = Unit {0}

@@ -7,10 +7,10 @@ use Rattle.method.specs.Network.{IsNode}
 use Rattle.refusal.specs.Rows.{outside}
 use Rattle.network.specs.Layout.{netOf, Laid}
 use Rattle.refusal.proofs.Tests.{inside}
-use Rattle.call_file.proofs.Records.{some-entry}
-use Rattle.call_file.proofs.Answered.{has-started, file-fits, refused-answers, outside-answers, unstarted-answers, file-answers}
-use Rattle.call_file.proofs.write.Statement.{statement}
-use Rattle.call_file.proofs.write.Tie as tie
+use Rattle.call_write.proofs.Records.{some-entry}
+use Rattle.call_write.proofs.Answered.{has-started, file-fits, refused-answers, outside-answers, unstarted-answers, file-answers}
+use Rattle.call_write.proofs.write.Statement.{statement}
+use Rattle.call_write.proofs.write.Tie as tie
 
 -- the network is laid out
 laid : (c : tie.Else1) → Laid (c .before .before .before .args .t1 .laid)
