@@ -1,5 +1,6 @@
 /* The outside tests: the static library, as C calls it, against an independent reading of document 01.
  * usage: outside [quick] [SEED]   the tests, or a tenth of them up to the first group with a failure
+ *        outside files [SEED]     those that read files, and outside others [SEED] all others: the two can run at once
  *        outside print            what document 01 says House table prints for standard input
  *        outside input SEED       a random input for House table */
 #include "test.h"
@@ -12,6 +13,7 @@ enum { MOST_SHOWN = 700 };
 
 static unsigned long passed, failed;
 static int quick;
+static enum part part;
 
 int is_quick(void)
 {
@@ -69,26 +71,34 @@ void check(int ok, const char *what)
     }
 }
 
+enum part part_run(void)
+{
+    return part;
+}
+
 static const struct {
     const char *name;
     void (*test)(void);
+    enum part part;
 } tests[] = {
-    {"the list of refusals", test_words},
-    {"01's examples", test_examples},
-    {"networks", test_networks},
-    {"runs", test_runs},
-    {"entries and routes", test_entries},
-    {"arc lists", test_arcs},
-    {"rooms of every size", test_rooms},
-    {"writing files", test_files},
-    {"reading files", test_reading},
-    {"a killed writer", test_killed_writer},
-    {"what was seen", test_seen},
+    {"the list of refusals", test_words, OTHERS},
+    {"01's examples", test_examples, OTHERS},
+    {"networks", test_networks, OTHERS},
+    {"runs", test_runs, OTHERS},
+    {"entries and routes", test_entries, OTHERS},
+    {"arc lists", test_arcs, OTHERS},
+    {"rooms of every size", test_rooms, OTHERS},
+    {"writing files", test_files, OTHERS},
+    {"reading files", test_reading, FILES},
+    {"a killed writer", test_killed_writer, FILES},
+    {"what was seen", test_seen, ALL},
 };
 
 static void run_tests(void)
 {
     for (size_t k = 0; k < sizeof tests / sizeof *tests && !(quick && failed); k++) {
+        if (part != ALL && tests[k].part != ALL && tests[k].part != part)
+            continue;
         unsigned long passed_before = passed, failed_before = failed;
         clock_t began = clock();
         memset(shown, 0, sizeof shown);
@@ -111,14 +121,15 @@ int main(int argc, char **argv)
 {
     const char *word = argc > 1 ? argv[1] : "";
     quick = strcmp(word, "quick") == 0;
-    int input = strcmp(word, "input") == 0, place = quick || input ? 2 : 1;
+    part = strcmp(word, "files") == 0 ? FILES : strcmp(word, "others") == 0 ? OTHERS : ALL;
+    int input = strcmp(word, "input") == 0, place = quick || input || part != ALL ? 2 : 1;
     if (argc == 2 && strcmp(word, "print") == 0) {
         print_house();
         return 0;
     }
     uint32_t seed = argc > place ? seed_of(argv[place]) : 20011;
     if (argc > place + 1 || seed == 0) {
-        fprintf(stderr, "usage: outside [quick] [SEED] | print | input SEED    SEED is a number from 1 on\n");
+        fprintf(stderr, "usage: outside [quick|files|others] [SEED] | print | input SEED    SEED is a number from 1 on\n");
         return 2;
     }
     random_seed(seed);

@@ -58,7 +58,9 @@ static int is_promised(enum call call, unsigned refusal)
 static void seen_of(enum call call)
 {
     char what[80];
-    unsigned long often = is_quick() ? 0 : 100, once = is_quick() ? 0 : 1; /* a quick run need not have seen everything */
+    /* a quick run need not have seen everything, and a part only what is its own */
+    int own = part_run() == ALL || (part_run() == FILES) == (call == READ_ENTRY || call == READ_TABLE);
+    unsigned long often = is_quick() || !own ? 0 : 100, once = is_quick() || !own ? 0 : 1;
     for (unsigned refusal = 0; refusal < 256; refusal++) {
         snprintf(what, sizeof what, "%s: refusal %u seen %lu times", promised[call].name, refusal, refusals[call][refusal]);
         if (is_promised(call, refusal))

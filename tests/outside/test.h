@@ -14,6 +14,9 @@ void about(const char *name, const uint8_t *bytes, size_t len);
 void about_number(const char *name, uint32_t number);
 /* How often a test tries something that it tries so often in a full run: a quick run has a tenth of it. */
 unsigned rounds(unsigned full);
+/* Which of the tests run: all, those that read files, or the others. */
+enum part { ALL, FILES, OTHERS };
+enum part part_run(void);
 int is_quick(void);
 
 /* ---- seen.c: the calls that can refuse, and what they have answered */

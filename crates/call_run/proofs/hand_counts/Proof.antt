@@ -1,5 +1,5 @@
 -- `hand_counts`: four stores fill the room.
-use Rattle.call_run.proofs.Handing.{counts-handed}
+use Rattle.call_run.proofs.Counts.{counts-handed}
 use borrow.Author.Needs.{needs}
 use Rattle.call_run.proofs.hand_counts.Statement.{statement}
 use Rattle.call_run.proofs.hand_counts.Tie as tie

@@ -4,8 +4,8 @@ use lib.ListN.{set}
 use mathlib.Core.Path.{ap}
 use Prim.Native.Nat.{ℕ}
 use borrow.Author.Needs.{needs}
-use Rattle.call_run.proofs.hand_entry.Statement.{statement}
-use Rattle.call_run.proofs.hand_entry.Tie as tie
+use Rattle.run_rows.proofs.hand_entry.Statement.{statement}
+use Rattle.run_rows.proofs.hand_entry.Tie as tie
 
 mul-entries : tie.Need-mul-entries
 mul-entries c = search needs

@@ -1,5 +1,5 @@
 -- Handing over: one entry more in a row, one row more; the counts.
-use mathlib.Core.Path.{_≡_, refl, sym, subst, _∙_}
+use mathlib.Core.Path.{_≡_, sym, subst, _∙_}
 use mathlib.Core.Bool.{Bool, true, false, cond}
 use mathlib.Core.Option.{Option}
 use mathlib.Core.List.{List, [], _∷_}
@@ -8,12 +8,11 @@ use native.Mathlib.Nat.{mul-le-mul, mul-le-mul-right}
 use native.Mathlib.Numerals.{add-one}
 use native.Mathlib.Omega.{arith}
 use lib.Dec.{ltb}
-use lib.ListN.{length, getD, set}
+use lib.ListN.{length, getD}
 use lib.Seq.{sets}
 use Rattle.method.specs.Rules.{Filled, Phase, unstarted, started, stopped}
 use Rattle.method.specs.Entries.{Entry, said}
 use Rattle.method.specs.Marks.{distanceOf, hopOf}
-use Rattle.method.specs.Room.{begins}
 use Rattle.run_cells.specs.Part.{Part, tableSize, marksAt, hopsAt, partSize, cells, entryMarked, nodeOf}
 use Rattle.run_cells.specs.Caches.{Marks}
 use Rattle.method.specs.Entries.{entryOf}
@@ -63,12 +62,3 @@ row-within n i few lt =
     let a : suc i * n ≤ n * n = mul-le-mul-right n (omega arith) in
     let b : n * n ≤ 16 * 16 = mul-le-mul few few in
     (omega arith, omega arith)
-
--- four numbers fill a room of four
-pub counts-handed : (room : List ℕ) (t i u k : ℕ) → length room ≡ 4
-    → set (set (set (set room 0 t) 1 i) 2 u) 3 k ≡ begins (t ∷ i ∷ u ∷ k ∷ []) room
-counts-handed [] t i u k e = absurd (omega arith)
-counts-handed (a ∷ []) t i u k e = absurd (omega arith)
-counts-handed (a ∷ b ∷ []) t i u k e = absurd (omega arith)
-counts-handed (a ∷ b ∷ c ∷ []) t i u k e = absurd (omega arith)
-counts-handed (a ∷ b ∷ c ∷ d ∷ room) t i u k e = refl

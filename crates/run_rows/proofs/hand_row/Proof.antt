@@ -1,5 +1,5 @@
 -- `hand_row`: one target's entry more at each turn.
-use Rattle.call_run.proofs.Handing.{cells-small, hop-small, row-next}
+use Rattle.run_rows.proofs.Handing.{cells-small, hop-small, row-next}
 use Rattle.run_cells.specs.Part.{cells, stateOf}
 use Rattle.method.specs.Marks.{entryNumbers}
 use Rattle.method.specs.Entries.{entryOf}
@@ -9,8 +9,8 @@ use mathlib.Core.Path.{_≡_, refl}
 use Prim.Native.Nat.{_+_, _-_, _≤_}
 use borrow.Author.Needs.{needs}
 use native.Mathlib.Omega.{arith}
-use Rattle.call_run.proofs.hand_row.Statement.{statement}
-use Rattle.call_run.proofs.hand_row.Tie as tie
+use Rattle.run_rows.proofs.hand_row.Statement.{statement}
+use Rattle.run_rows.proofs.hand_row.Tie as tie
 
 abbrev Inv-loop : tie.InvT-loop
 Inv-loop s entries₀ at n i k₀ entries k =

@@ -6,11 +6,11 @@ use lib.Seq.{sets}
 use Rattle.method.specs.Entries.{entryOf}
 use Rattle.method.specs.Marks.{rowNumbers}
 use Rattle.run_cells.specs.Part.{cells, stateOf}
-use Rattle.call_run.proofs.Handing.{rows-next, row-within}
+use Rattle.run_rows.proofs.Handing.{rows-next, row-within}
 use borrow.Author.Needs.{needs}
 use native.Mathlib.Omega.{arith}
-use Rattle.call_run.proofs.hand_rows.Statement.{statement}
-use Rattle.call_run.proofs.hand_rows.Tie as tie
+use Rattle.run_rows.proofs.hand_rows.Statement.{statement}
+use Rattle.run_rows.proofs.hand_rows.Tie as tie
 
 abbrev Inv-loop : tie.InvT-loop
 Inv-loop s entries₀ n i₀ entries i =
