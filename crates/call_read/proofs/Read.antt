@@ -17,6 +17,7 @@ use Rattle.table.proofs.Small.{hop-small}
 use Rattle.call.specs.Answers.{values}
 use Rattle.call.specs.Files.{readAnswer, entriesOutcome, OneAnswer}
 use Rattle.call.proofs.FilesSmall.{numbers-small}
+
 -- an entry
 module _ (s : List ℕ) (y : ℕ) (a : Answer) (is : a ≡ answerOf (entryRead one s y)) (d : Distance) (h : ℕ) (e : a ≡ Entry d h) where
   said : (r : Read) → entryRead one s y ≡ r → Entry d h ≡ answerOf r → (h < 256) × (values h (d .0) ≡ readAnswer r)

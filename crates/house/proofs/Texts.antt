@@ -21,7 +21,7 @@ use Rattle.network.specs.Found.{Finds}
 use Rattle.network.specs.declared.Found.{Found}
 use Rattle.house_text.specs.Lines.{houseText, refusedLine}
 use Rattle.house_text.specs.Handed.{entryBy, handedEntry}
-use Rattle.house_text.specs.Room.{Front}
+use Rattle.house_words.specs.Room.{Front}
 use Rattle.house_text.proofs.Laws.{laws as text-laws}
 use Rattle.call.specs.Calls.{nodesOf, entryAfter, runRows, runRefusal, countsAfter, entriesAfter, tenRows}
 use Rattle.call.specs.Promises.{RunPromise}

@@ -2,7 +2,7 @@
 ghost use mathlib.Core.Path.{_≡_};
 ghost use Prim.Native.Nat.{min};
 ghost use lib.ListN.{length};
-ghost use Rattle.house_text.specs.Room.{Front};
+ghost use Rattle.house_words.specs.Room.{Front};
 ghost use Rattle.house.specs.House.{asked, text};
 
 // Where the network's bytes end and the step bytes begin.

@@ -5,7 +5,7 @@ use Rattle.method.specs.Network.{Net, byNumber}
 use Rattle.method.specs.Message.{oldest, sentAfter}
 use Rattle.method.specs.Steps.{Step, byteStep, run, counts}
 use Rattle.method.specs.Entries.{entry}
-use Rattle.house_text.specs.Decimal.{decimal}
+use Rattle.house_words.specs.Decimal.{decimal}
 use Rattle.house_text.specs.Lines.{bytes, houseText}
 
 -- the bytes 11 10 01 01 10: two nodes, LMAX 1, and one arc from 1 to 2 of length 1

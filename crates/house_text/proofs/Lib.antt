@@ -1,5 +1,3 @@
-pub mod Decimal
-pub mod Writing
 pub mod Rising
 pub mod Handed
 pub mod Short

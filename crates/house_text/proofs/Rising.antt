@@ -9,8 +9,8 @@ use native.Mathlib.Omega.{arith}
 use lib.ListN.{length, length-append}
 use lib.Seq.{length-sets}
 use Rattle.house_text.specs.Lines.{rising}
-use Rattle.house_text.specs.Writing.{HasRoom, Written}
-use Rattle.house_text.proofs.Writing.{both}
+use Rattle.house_words.specs.Writing.{HasRoom, Written}
+use Rattle.house_words.proofs.Writing.{both}
 
 module _ (text : ℕ → List ℕ) where
   length-more : (k : ℕ) → length (rising text (suc k)) ≡ length (rising text k) + length (text (suc k))

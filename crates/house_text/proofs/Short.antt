@@ -7,11 +7,11 @@ use lib.Dec.{eqb}
 use lib.ListN.{length, getD, length-append}
 use Rattle.method.specs.Entries.{unknown, unreachable, known}
 use Rattle.method.specs.Marks.{unknownMark, unreachableMark}
-use Rattle.house_text.specs.Decimal.{decimal}
+use Rattle.house_words.specs.Decimal.{decimal}
 use Rattle.house_text.specs.Lines.{countsLine, distanceHop, entryLine, nodeLines, rising, houseText, refusedLine}
 use Rattle.house_text.specs.Handed.{entryBy, handedEntry}
 use Rattle.house_text.specs.Room.{longest, longestRefused}
-use Rattle.house_text.proofs.Decimal.{decimal-short}
+use Rattle.house_words.proofs.Decimal.{decimal-short}
 use Rattle.house_text.proofs.Rising.{rising-short}
 
 -- the digits of a number of 64 bits, and of one of 16

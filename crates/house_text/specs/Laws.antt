@@ -6,10 +6,11 @@ use lib.ListN.{length, getD}
 use Rattle.method.specs.Network.{IsNode}
 use Rattle.method.specs.Entries.{Entry, known}
 use Rattle.method.specs.Marks.{unreachableMark, distanceOf, hopOf}
-use Rattle.house_text.specs.Decimal.{digit, decimal}
+use Rattle.house_words.specs.Decimal.{digit, decimal}
 use Rattle.house_text.specs.Lines.{houseText, refusedLine}
 use Rattle.house_text.specs.Handed.{entryBy, handedEntry}
-use Rattle.house_text.specs.Room.{Front, longest, longestRefused}
+use Rattle.house_words.specs.Room.{Front}
+use Rattle.house_text.specs.Room.{longest, longestRefused}
 
 pub record TextLaws : Type 0 where
   -- A number below 10 is one digit; any other has the digits of its tenth, and then its last digit.

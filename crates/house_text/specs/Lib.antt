@@ -1,6 +1,4 @@
-pub mod Decimal
 pub mod Lines
 pub mod Handed
 pub mod Room
 pub mod Laws
-pub mod Writing

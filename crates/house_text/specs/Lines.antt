@@ -4,7 +4,7 @@ use Prim.Native.Nat.{ℕ, zero, suc}
 use Prim.Native.Char.{code}
 use Prim.Native.String.{String, [] as noText, _∷_ as _then_}
 use Rattle.method.specs.Entries.{Entry, unknown, unreachable, known}
-use Rattle.house_text.specs.Decimal.{decimal}
+use Rattle.house_words.specs.Decimal.{decimal}
 
 -- the bytes of a text in ASCII
 abbrev pub bytes : String → List ℕ

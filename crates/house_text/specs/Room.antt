@@ -1,14 +1,5 @@
--- What is left of a lent room that a text is written into, and how large the room must be.
-use mathlib.Core.Path.{_≡_}
-use mathlib.Core.List.{List}
+-- How large a room must be for a text.
 use Prim.Native.Nat.{ℕ, _+_, _*_}
-use lib.ListN.{length}
-use Rattle.method.specs.Room.{begins}
-
--- the text stands at the beginning, the bytes beyond it stay, and the answer is its length
-pub record Front (room text after : List ℕ) (answer : ℕ) : Type 0 where
-  pub holds : after ≡ begins text room
-  pub whole : answer ≡ length text
 
 -- no text of a house is longer, 4719 bytes: four counts of 20 digits with their words, and 16 times 16 lines of 18 bytes
 abbrev pub longest : ℕ

@@ -6,54 +6,14 @@ ghost use Prim.Native.Nat.{_+_, _*_, _≤_, _<_};
 ghost use lib.ListN.{length};
 ghost use Rattle.method.specs.Network.{IsNode};
 ghost use Rattle.method.specs.Marks;
-ghost use Rattle.house_text.specs.Decimal.{decimal};
+ghost use Rattle.house_words.specs.Decimal.{decimal};
 ghost use Rattle.house_text.specs.Lines.{countsLine, distanceHop, entryLine, rising, nodeLines, houseText, refusedLine};
 ghost use Rattle.house_text.specs.Handed.{entryBy, handedEntry};
-ghost use Rattle.house_text.specs.Room.{Front, longest, longestRefused};
-ghost use Rattle.house_text.specs.Writing.{HasRoom, Written};
+ghost use Rattle.house_words.specs.Room.{Front};
+ghost use Rattle.house_text.specs.Room.{longest, longestRefused};
+ghost use Rattle.house_words.specs.Writing.{HasRoom, Written};
+use house_words::*;
 use method::Distance;
-
-// One byte.
-fn put(room: &mut [u8], at: usize, x: u8) -> usize
-    requires { ⌜ HasRoom (now room) at (x ∷ []) ⌝ }
-    ensures { λ r. ⌜ Written (now (room .entry)) at (x ∷ []) (now (room .exit)) r ⌝ }
-{
-    room[at] = x;
-    at + 1
-}
-
-// The bytes of a word.
-fn word(room: &mut [u8], at: usize, text: &[u8]) -> usize
-    requires { ⌜ HasRoom (now room) at (now text) ⌝ }
-    ensures { λ r. ⌜ Written (now (room .entry)) at (now (text .entry)) (now (room .exit)) r ⌝ }
-{
-    let mut next = at;
-    for k in 0..text.len() {
-        next = put(room, next, text[k]);
-    }
-    next
-}
-
-// A number's decimal digits: those of its tenth, if it has more than one, and then the last.
-fn number(room: &mut [u8], at: usize, x: u64) -> usize
-    requires { ⌜ HasRoom (now room) at (decimal x) ⌝ }
-    ensures { λ r. ⌜ Written (now (room .entry)) at (decimal x) (now (room .exit)) r ⌝ }
-{
-    if x < 10 {
-        return put(room, at, 48 + x as u8);
-    }
-    let last = number(room, at, x / 10);
-    put(room, last, 48 + (x % 10) as u8)
-}
-
-// A word with a number after it.
-fn numbered(room: &mut [u8], at: usize, text: &[u8], x: u64) -> usize
-    requires { ⌜ HasRoom (now room) at (now text ++ decimal x) ⌝ }
-    ensures { λ r. ⌜ Written (now (room .entry)) at (now (text .entry) ++ decimal x) (now (room .exit)) r ⌝ }
-{
-    let at = word(room, at, text);
-    number(room, at, x)
-}
 
 // The line of counts.
 fn counts(room: &mut [u8], at: usize, taken: u64, idle: u64, unknown: u64, stopped: u64) -> usize

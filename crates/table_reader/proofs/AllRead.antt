@@ -17,7 +17,8 @@ use Rattle.table.specs.declared.Ending.{Ending}
 use Rattle.table.specs.declared.Ending.the-variants.{Unfinished, Marked, Faulty}
 use Rattle.table.specs.declared.Outcome.{Outcome}
 use Rattle.table.specs.declared.Header.{Header}
-use Rattle.table_records.specs.Parts.{HasHeader, ending, concluded}
+use Rattle.table_header.specs.HasHeader.{HasHeader}
+use Rattle.table_records.specs.Parts.{ending, concluded}
 use Rattle.table_reader.specs.Listing.{allOutcome, allRoom}
 use Rattle.table.proofs.Walk.{taken-passed}
 use Rattle.table_records.proofs.SoundHeader.{reading-is}

@@ -15,7 +15,8 @@ use Rattle.method.proofs.Table.{Found, find-ok}
 use Rattle.table.specs.File.{one}
 use Rattle.table.specs.Reader.{recordsIn, phaseOf, refusal, says, entryFrom, entryRead}
 use Rattle.refusal.specs.Rows.{_when_, first, answer}
-use Rattle.table_records.specs.Parts.{HasHeader, ending, concluded}
+use Rattle.table_header.specs.HasHeader.{HasHeader}
+use Rattle.table_records.specs.Parts.{ending, concluded}
 use Rattle.table_reader.specs.Code.{answerOf, recordDistance, recordHop, toldBy, walked, answered}
 use Rattle.table.specs.declared.Answer.{Answer}
 use Rattle.table.specs.declared.Answer.the-variants.{Entry, Refused}

@@ -17,7 +17,8 @@ ghost use Rattle.method.specs.If.{if_then_else_};
 ghost use Rattle.table.specs.File.{one};
 ghost use Rattle.table.specs.Reader.{recordsIn, reading, entryRead};
 ghost use Rattle.call.specs.Files.{entriesOutcome, tableRoom};
-ghost use Rattle.table_records.specs.Parts.{HasHeader, ending};
+ghost use Rattle.table_header.specs.HasHeader.{HasHeader};
+ghost use Rattle.table_records.specs.Parts.{ending};
 ghost use Rattle.table_reader.specs.Code.{walked, answeredBy, answerOf};
 ghost use Rattle.table_reader.specs.Listing.{withEntry, withAbsent, withRecords, allOutcome, allRoom};
 
@@ -126,11 +127,11 @@ fn entry_by(own: u32, n: u32, t: u32, absent: Distance, distance: u16, hop: u16)
 pub fn read_entry(file: &[u8], target: u32) -> Answer
     ensures { λ r. ⌜ r ≡ answerOf (entryRead one (now (file .entry)) target) ⌝ }
 {
-    let fault = table_records::header::fault(file);
+    let fault = table_header::fault(file);
     if fault.number != 0 {
         return Answer::Refused(fault);
     }
-    let h = table_records::header::numbers(file);
+    let h = table_header::numbers(file);
     let w = scan(file, h, target);
     let ending = w.ending;
     match ending {
@@ -210,11 +211,11 @@ pub fn read_entries(file: &[u8], room: &mut [u16]) -> Outcome
     ensures { λ r. ⌜ (r ≡ entriesOutcome (reading one (now (file .entry))) (now (room .entry)))
         × (now (room .exit) ≡ tableRoom (reading one (now (file .entry))) (now (room .entry))) ⌝ }
 {
-    let fault = table_records::header::fault(file);
+    let fault = table_header::fault(file);
     if fault.number != 0 {
         return Outcome::Refused(fault);
     }
-    let h = table_records::header::numbers(file);
+    let h = table_header::numbers(file);
     let ending = ending_of(file, h);
     match ending {
         Ending::Unfinished => put_all(file, h, Distance::UNKNOWN.0, room),

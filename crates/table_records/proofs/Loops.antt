@@ -13,7 +13,8 @@ use Rattle.table.specs.File.{Form, one, startOf}
 use Rattle.table.specs.declared.Header.{Header}
 use Rattle.table.specs.declared.Ending.the-variants.{Faulty}
 use Rattle.table.specs.Reader.{stands, recordsIn, endOf, bodyRows}
-use Rattle.table_records.specs.Parts.{HasHeader, endingAt, ending}
+use Rattle.table_header.specs.HasHeader.{HasHeader}
+use Rattle.table_records.specs.Parts.{endingAt, ending}
 use Rattle.table_records.specs.Walk.{beginning, At, AdvancesTo, Advances, Places, Narrow}
 use Rattle.table_records.specs.declared.Cursor.{Cursor}
 use Rattle.table_records.specs.declared.Met.{Met}

@@ -1,23 +1,20 @@
--- A file's header: what follows where it is sound, and where it is not.
+-- What a file's header tells of its reading: where it is faulty, and where it is sound.
 use mathlib.Core.Path.{_≡_, refl, sym, _∙_, ap}
 use mathlib.Core.List.{List, _++_}
 use mathlib.Core.Bool.{Bool, true, false}
 use Rattle.method.specs.If.{if_then_else_}
-use Prim.Native.Nat.{ℕ, zero, suc, _+_, _≤_}
-use native.Mathlib.Omega.{arith}
-use lib.ListN.{length}
-use Rattle.bits.specs.Bits.{bitsOf, field}
-use Rattle.bits.proofs.Bytes.{field-below}
+use Prim.Native.Nat.{ℕ, zero, suc}
+use Rattle.bits.specs.Bits.{bitsOf}
 use Rattle.refusal.specs.declared.Refusal.{Refusal}
 use Rattle.refusal.specs.Rows
 use Rattle.refusal.specs.Rows.{Row, first, answerBy}
-use Rattle.refusal.proofs.Rows.{clear, before-all, after-none, answer-some}
-use Rattle.table.specs.File.{one, headerOf}
+use Rattle.refusal.proofs.Rows.{before-all, after-none, answer-some}
+use Rattle.table.specs.File.{one}
 use Rattle.table.specs.declared.Header.{Header}
 use Rattle.table.specs.Reader.{headerAt, headerRows, recordsIn, zeroBit, endOf, bodyRows, fileRows, refused, accepted, reading}
 use Rattle.table.specs.declared.Ending.the-variants.{Unfinished, Marked, Faulty}
-use Rattle.table.proofs.Walk.{header-sound}
-use Rattle.table_records.specs.Parts.{HasHeader, ending, concluded}
+use Rattle.table_header.specs.HasHeader.{HasHeader}
+use Rattle.table_records.specs.Parts.{ending, concluded}
 
 -- a faulty header refuses the file
 pub fault-refuses : (s : List ℕ) (r : Refusal) → r ≡ first (headerRows one (headerAt one (bitsOf s)) s) → (r .number ≡ 0 → ⊥)
@@ -43,25 +40,3 @@ reading-is s h d =
     go zero true = refl
     go zero false = refl
     go (suc N) mark = refl
-
--- a sound header has two bytes
-pub sound-two : (s : List ℕ) → Rows.refused (headerRows one (headerAt one (bitsOf s)) s) ≡ 0 → 2 ≤ length s
-sound-two s z = header-sound one (headerAt one (bitsOf s)) s (clear (headerRows one (headerAt one (bitsOf s)) s) z) .0
-
--- the numbers of the header from its fields
-pub header-is : (s : List ℕ) (o m l : ℕ) → Rows.refused (headerRows one (headerAt one (bitsOf s)) s) ≡ 0 → o ≡ field (bitsOf s) 4 4
-    → m ≡ field (bitsOf s) 8 4 → l ≡ field (bitsOf s) 12 4
-    → HasHeader s (headerOf (o + 1) (m + 1) l)
-unfolding headerAt
-header-is s o m l z eo em el =
-    let same : headerAt one (bitsOf s) ≡ headerOf (o + 1) (m + 1) l = rw (eo, em, el) in
-    record {
-      sound = z;
-      same = same;
-      own = (
-        omega arith,
-        header-sound one (headerOf (o + 1) (m + 1) l) s
-            (clear (headerRows one (headerOf (o + 1) (m + 1) l) s) (rw same at z)) .1,
-      );
-      small = (omega (arith, field-below s 8 4), omega (arith, field-below s 12 4));
-    }

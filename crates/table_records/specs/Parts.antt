@@ -1,29 +1,21 @@
 -- The parts of a table file, as the numbers that the code makes of them.
-use Prim.Native.Nat.{ℕ, _+_, _≤_, _<_}
+use Prim.Native.Nat.{ℕ, _+_}
 use mathlib.Core.Path.{_≡_}
 use mathlib.Core.Bool.{Bool, true, false}
 use mathlib.Core.List.{List}
 use lib.ListN.{length}
 use lib.Dec.{ltb, eqb}
-use Rattle.bits.specs.Bits.{bitsOf, field}
+use Rattle.bits.specs.Bits.{field}
 use Rattle.method.specs.If.{if_then_else_}
-use Rattle.method.specs.Network.{IsNode}
 use Rattle.method.specs.Rules.{Filled}
 use Rattle.refusal.specs.declared.Refusal.{Refusal}
 use Rattle.refusal.specs.Rows
 use Rattle.refusal.specs.Rows.{refusal, none, answerBy, answer}
-use Rattle.table.specs.File.{Form, one}
+use Rattle.table.specs.File.{Form}
 use Rattle.table.specs.declared.Header.{Header}
-use Rattle.table.specs.Reader.{headerAt, headerRows, fieldRows, zeroBit, endRows, endOf, bodyRows, Reading, refused, accepted}
+use Rattle.table.specs.Reader.{fieldRows, zeroBit, endRows, endOf, bodyRows, Reading, refused, accepted}
 use Rattle.table.specs.declared.Ending.{Ending}
 use Rattle.table.specs.declared.Ending.the-variants.{Unfinished, Marked, Faulty}
-
--- the bytes s have a sound header that says h
-pub record HasHeader (s : List ℕ) (h : Header) : Type 0 where
-  pub sound : Rows.refused (headerRows one (headerAt one (bitsOf s)) s) ≡ 0
-  pub same : headerAt one (bitsOf s) ≡ h
-  pub own : IsNode (h .n) (h .own)
-  pub small : (h .n ≤ 16) × (h .lmax < 16)
 
 -- the 13 bits from bit p on, 0 where fewer stand
 unfoldable pub bitsStanding : List ℕ → ℕ → ℕ

@@ -1,6 +1,4 @@
-// The walk over a table file: its header (header.rt), a cursor that goes from record to record, and what stands where the records end.
-pub mod header;
-
+// The walk over a table file: a cursor that goes from record to record, and what stands where the records end.
 use refusal::Refusal;
 use table::Ending;
 use table::Header;

@@ -1,6 +1,6 @@
 -- `counts`: four counts and a line feed, one after the other.
 use lib.ListN.{length-append}
-use Rattle.house_text.proofs.Writing.{both}
+use Rattle.house_words.proofs.Writing.{both}
 use native.Mathlib.Omega.{arith}
 use borrow.Author.Needs.{needs}
 use Rattle.house_text.proofs.counts.Statement.{statement}

@@ -2,7 +2,7 @@
 use mathlib.Core.Path.{_≡_, sym, _∙_}
 use Rattle.method.specs.Entries.{unknown, unreachable, known}
 use Rattle.house_text.specs.Handed.{entryBy}
-use Rattle.house_text.proofs.Writing.{front, rest, both}
+use Rattle.house_words.proofs.Writing.{front, rest, both}
 use native.Mathlib.Omega.{arith}
 use borrow.Author.Needs.{needs}
 use Rattle.house_text.proofs.distance_hop.Statement.{statement}

@@ -2,8 +2,8 @@
 use native.Mathlib.Omega.{arith}
 use Rattle.house_text.specs.Lines.{houseText}
 use Rattle.house_text.specs.Handed.{handedEntry}
-use Rattle.house_text.specs.Writing.{HasRoom}
-use Rattle.house_text.proofs.Writing.{front, rest, both, at-front}
+use Rattle.house_words.specs.Writing.{HasRoom}
+use Rattle.house_words.proofs.Writing.{front, rest, both, at-front}
 use Rattle.house_text.proofs.Short.{house-short}
 use borrow.Author.Needs.{needs}
 use Rattle.house_text.proofs.house.Statement.{statement}

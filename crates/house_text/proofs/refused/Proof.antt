@@ -1,7 +1,7 @@
 -- `refused`: the whole line has room, so each part has.
 use Rattle.house_text.specs.Lines.{refusedLine}
-use Rattle.house_text.specs.Writing.{HasRoom, Written}
-use Rattle.house_text.proofs.Writing.{front, rest, both, at-front}
+use Rattle.house_words.specs.Writing.{HasRoom, Written}
+use Rattle.house_words.proofs.Writing.{front, rest, both, at-front}
 use Rattle.house_text.proofs.Short.{refused-short}
 use native.Mathlib.Omega.{arith}
 use borrow.Author.Needs.{needs}

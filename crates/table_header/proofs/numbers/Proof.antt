@@ -1,9 +1,9 @@
 -- `numbers`: its half bytes are the definition's fields.
-use Rattle.table_records.proofs.SoundHeader.{sound-two, header-is}
+use Rattle.table_header.proofs.Sound.{sound-two, header-is}
 use native.Mathlib.Omega.{arith}
 use borrow.Author.Needs.{needs}
-use Rattle.table_records.proofs.header.numbers.Statement.{statement}
-use Rattle.table_records.proofs.header.numbers.Tie as tie
+use Rattle.table_header.proofs.numbers.Statement.{statement}
+use Rattle.table_header.proofs.numbers.Tie as tie
 
 nibble-requires : tie.Need-nibble-requires
 nibble-requires c κs = omega (arith, sound-two (c .before .args .file .now) (c .before .pre))

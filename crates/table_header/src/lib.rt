@@ -6,7 +6,7 @@ ghost use Rattle.bits.specs.Bits.{bitsOf};
 ghost use Rattle.refusal.specs.Rows.{first, refused};
 ghost use Rattle.table.specs.File.{one};
 ghost use Rattle.table.specs.Reader.{headerAt, headerRows};
-ghost use Rattle.table_records.specs.Parts.{HasHeader};
+ghost use Rattle.table_header.specs.HasHeader.{HasHeader};
 
 // Refusals 14 to 16.
 pub fn fault(file: &[u8]) -> Refusal

@@ -4,12 +4,12 @@ use mathlib.Core.Path.{_≡_}
 use native.Mathlib.Numerals.{add-one}
 use lib.ListN.{length, take}
 use lib.Seq.{length-take-le, take-suc, take-length}
-use Rattle.house_text.specs.Writing.{Written}
-use Rattle.house_text.proofs.Writing.{both}
+use Rattle.house_words.specs.Writing.{Written}
+use Rattle.house_words.proofs.Writing.{both}
 use borrow.Author.Needs.{needs}
 use native.Mathlib.Omega.{arith}
-use Rattle.house_text.proofs.word.Statement.{statement}
-use Rattle.house_text.proofs.word.Tie as tie
+use Rattle.house_words.proofs.word.Statement.{statement}
+use Rattle.house_words.proofs.word.Tie as tie
 
 abbrev Inv-loop : tie.InvT-loop
 Inv-loop room₀ at text next₀ k₀ k-end room next k =

@@ -1,17 +1,17 @@
 -- `number`: the digits of the tenth, and the last digit right after them. The number falls at each call.
 use Prim.Native.Nat.{ℕ, _≤_, _<_}
 use native.Mathlib.Omega.{arith}
-use Rattle.house_text.proofs.Decimal.{one-digit, more-digits}
-use Rattle.house_text.proofs.Writing.{front, rest, both}
+use Rattle.house_words.proofs.Decimal.{one-digit, more-digits}
+use Rattle.house_words.proofs.Writing.{front, rest, both}
 use borrow.Author.Needs.{needs}
 use borrow.Fn.Kinds.{In}
 use borrow.Fn.PlainCycle.{Measures, is, falls, and}
-use Rattle.house_text.proofs.number.Reads as number
-use Rattle.house_text.proofs.number.Kinds as number-kinds
-use Rattle.house_text.proofs.+number.Lts-number as number-lts
-use Rattle.house_text.proofs.put.Reads as put-reads
-use Rattle.house_text.proofs.+number.{statement}
-use Rattle.house_text.proofs.+number.Tie.{close}
+use Rattle.house_words.proofs.number.Reads as number
+use Rattle.house_words.proofs.number.Kinds as number-kinds
+use Rattle.house_words.proofs.+number.Lts-number as number-lts
+use Rattle.house_words.proofs.put.Reads as put-reads
+use Rattle.house_words.proofs.+number.{statement}
+use Rattle.house_words.proofs.+number.Tie.{close}
 
 abbrev μ-number : Measures 1 number-kinds.ps ℕ
 μ-number κs a = a .1 .1 .0

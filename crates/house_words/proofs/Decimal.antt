@@ -8,7 +8,7 @@ use native.Mathlib.Nat.{pow-suc}
 use lib.Dec.{ltb}
 use lib.ListN.{length, length-append}
 use borrow.Author.Tests.{lt-ltb, le-ltb, ltb-true, ltb-false}
-use Rattle.house_text.specs.Decimal.{digit, digits, decimal}
+use Rattle.house_words.specs.Decimal.{digit, digits, decimal}
 
 -- x has no more than x digits in front of the last
 enough : (k l x : ℕ) → x ≤ k → x ≤ l → digits k x ≡ digits l x

@@ -1,8 +1,8 @@
 -- `numbered`: the number right after the word.
-use Rattle.house_text.proofs.Writing.{front, rest, both}
+use Rattle.house_words.proofs.Writing.{front, rest, both}
 use borrow.Author.Needs.{needs}
-use Rattle.house_text.proofs.numbered.Statement.{statement}
-use Rattle.house_text.proofs.numbered.Tie as tie
+use Rattle.house_words.proofs.numbered.Statement.{statement}
+use Rattle.house_words.proofs.numbered.Tie as tie
 
 word-requires : tie.Need-word-requires
 word-requires c κs = front _ (c .before .before .before .pre)

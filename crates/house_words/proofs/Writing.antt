@@ -6,8 +6,8 @@ use native.Mathlib.Omega.{arith}
 use lib.ListN.{length, length-append}
 use lib.Seq.{length-sets}
 use Rattle.method.proofs.Room.{sets-append, sets-begins}
-use Rattle.house_text.specs.Room.{Front}
-use Rattle.house_text.specs.Writing.{HasRoom, Written}
+use Rattle.house_words.specs.Room.{Front}
+use Rattle.house_words.specs.Writing.{HasRoom, Written}
 
 -- where two texts have room, the first has
 pub front : {room : List ℕ} {at : ℕ} {a : List ℕ} (b : List ℕ) → HasRoom room at (a ++ b) → HasRoom room at a

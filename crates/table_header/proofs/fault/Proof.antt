@@ -6,8 +6,8 @@ use Rattle.bits.specs.Bits.{bitsOf, field}
 use Rattle.table.specs.Reader.{headerAt, headerRows}
 use native.Mathlib.Omega.{arith}
 use borrow.Author.Needs.{needs}
-use Rattle.table_records.proofs.header.fault.Statement.{statement}
-use Rattle.table_records.proofs.header.fault.Tie as tie
+use Rattle.table_header.proofs.fault.Statement.{statement}
+use Rattle.table_header.proofs.fault.Tie as tie
 
 returns : tie.Need-returns
 unfolding headerRows
