@@ -137,7 +137,6 @@ static void refused_networks(void)
         unsigned refusal = ref_read_network(bytes, net_len, &dummy);
         unsigned count = asked_nodes(net.n, asked);
         if (refusal) {
-            /* one after the other, so that a seed means the same for every compiler */
             uint32_t node = asked[random_below(count)], target = asked[random_below(count)];
             both(node, target, refusal);
         }
@@ -153,7 +152,8 @@ void test_entries(void)
     farthest();
     for (unsigned round = 0; round < rounds(15000); round++) {
         random_run(round % STEP_KINDS);
-        both(1 + random_below(net.n), 1 + random_below(net.n), 0);
+        uint32_t node = 1 + random_below(net.n), target = 1 + random_below(net.n);
+        both(node, target, 0);
     }
     refused_networks();
 }

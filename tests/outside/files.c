@@ -120,8 +120,10 @@ static void refused_networks(void)
         net_len = spoil_somehow(bytes, net_len);
         net_refusal = ref_read_network(bytes, net_len, &dummy);
         unsigned count = asked_nodes(net.n, asked);
-        if (net_refusal)
-            same_file(asked[random_below(count)], random_below(MOST_ROOM + 1));
+        if (net_refusal) {
+            uint32_t node = asked[random_below(count)];
+            same_file(node, random_below(MOST_ROOM + 1));
+        }
     }
 }
 

@@ -94,7 +94,7 @@ static void every_length(void)
             size_t right = ref_network_bytes(&net, bytes);
             compare(len, "a network at another length");
             compare(right, "an accepted network");
-            bytes[random_below((unsigned)right)] = (uint8_t)random_number();
+            random_byte(bytes, right);
             compare(right, "a network with one byte changed");
         }
 }

@@ -21,6 +21,12 @@ unsigned random_below(unsigned bound)
     return random_number() % bound;
 }
 
+void random_byte(uint8_t *bytes, size_t len)
+{
+    size_t place = random_below((unsigned)len);
+    bytes[place] = (uint8_t)random_number();
+}
+
 /* ---- networks */
 
 static unsigned random_arc_length(unsigned lmax, unsigned kind)
@@ -170,8 +176,10 @@ static void spoil_arc(uint8_t *bytes, unsigned arcs, unsigned number)
 {
     unsigned n = half(bytes, 1) + 1, lmax = half(bytes, 2);
     size_t one = 6 + 3 * (size_t)random_below(arcs), other = 6 + 3 * (size_t)random_below(arcs);
-    if (number == 5 && n < 16)
-        put_half(bytes, one + random_below(2), n + random_below(16 - n));
+    if (number == 5 && n < 16) {
+        one += random_below(2);
+        put_half(bytes, one, n + random_below(16 - n));
+    }
     if (number == 6)
         put_half(bytes, one + 1, half(bytes, one));
     if (number == 7)
@@ -187,8 +195,10 @@ size_t spoil_network(uint8_t *bytes, size_t len, unsigned number)
     unsigned arcs = len < 3 ? 0 : bytes[2];
     if (number == 1)
         return random_below(4) ? len + 1 - 2 * (size_t)random_below(2) : random_below(3);
-    if (number == 2)
-        put_half(bytes, 3 * (size_t)random_below(2), 2 + random_below(14));
+    if (number == 2) {
+        size_t place = 3 * (size_t)random_below(2);
+        put_half(bytes, place, 2 + random_below(14));
+    }
     if (number == 3)
         put_half(bytes, 2, 0);
     if (number == 4)
@@ -202,13 +212,13 @@ size_t spoil_network(uint8_t *bytes, size_t len, unsigned number)
 
 size_t spoil_somehow(uint8_t *bytes, size_t len)
 {
-    if (random_below(8) == 0)
-        bytes[random_below((unsigned)len)] = (uint8_t)random_number();
-    else if (random_below(3))
-        return spoil_network(bytes, len, 1 + random_below(9));
-    else
-        return spoil_network(bytes, spoil_network(bytes, len, 2 + random_below(8)), 1 + random_below(9));
-    return len;
+    if (random_below(8) == 0) {
+        random_byte(bytes, len);
+        return len;
+    }
+    if (random_below(3) == 0)
+        len = spoil_network(bytes, len, 2 + random_below(8));
+    return spoil_network(bytes, len, 1 + random_below(9));
 }
 
 unsigned asked_nodes(unsigned n, uint32_t asked[MOST_ASKED])

@@ -72,7 +72,7 @@ static size_t spoil_bytes(uint8_t *bytes, size_t len)
     size_t more = 1 + random_below((unsigned)(MOST_FILE - len));
     switch (random_below(12)) {
     case 0:
-        bytes[random_below(2)] = (uint8_t)random_number();
+        random_byte(bytes, 2);
         return len;
     case 1:
         bytes[len - 1] |= (uint8_t)(1u << random_below(4));
@@ -86,9 +86,11 @@ static size_t spoil_bytes(uint8_t *bytes, size_t len)
         return len + more;
     case 4:
         return random_below((unsigned)len);
-    case 5:
-        bytes[random_below((unsigned)len)] ^= (uint8_t)(1u << random_below(8));
+    case 5: {
+        size_t place = random_below((unsigned)len);
+        bytes[place] ^= (uint8_t)(1u << random_below(8));
         return len;
+    }
     default:
         return len;
     }

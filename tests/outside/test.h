@@ -35,9 +35,12 @@ const zaq_arc *list_at_edge(const struct ref_net *net);
 
 /* ---- random.c */
 
+/* Two of these never stand in one expression that leaves their order open: a seed means the same for every compiler. */
 void random_seed(uint32_t seed);
 uint32_t random_number(void);
 unsigned random_below(unsigned bound);
+/* Another byte at one of the places. */
+void random_byte(uint8_t *bytes, size_t len);
 /* A random accepted network: any n, any LMAX, sparse, dense, a ring, a line, a star, islands, every arc, many ties, long arcs. */
 void random_network(struct ref_net *net);
 /* A step list in one of STEP_KINDS orders. */
