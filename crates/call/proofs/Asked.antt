@@ -4,7 +4,6 @@ use mathlib.Core.List.{List}
 use Prim.Native.Nat.{ℕ}
 use lib.ListN.{length}
 use Rattle.method.specs.Network.{IsNode, Accepted}
-use Rattle.method.specs.Steps.{steps}
 use Rattle.refusal.specs.Rows.{refused, roomRows, _else_}
 use Rattle.refusal.proofs.Rows.{clear, rows-else, else-both, else-assoc}
 use Rattle.network.specs.Checked.{Checked, OfMethod}
@@ -18,10 +17,10 @@ pub record Asked (net : Checked) (i y : ℕ) : Type 0 where
   pub node : IsNode (nodesOf net) i
   pub target : IsNode (nodesOf net) y
 
-pub asked : (net : Checked) → OfMethod net → (bs : List ℕ) (i y : ℕ) → entryRefusal net bs i y ≡ 0 → Asked net i y
-asked net sound bs i y e =
+pub asked : (net : Checked) → OfMethod net → (i y : ℕ) → entryRefusal net i y ≡ 0 → Asked net i y
+asked net sound i y e =
     let both = else-both (net .refused) _ e in
-    let c = clear (entryRows (net .meant) (steps bs) i y) (both .1) in
+    let c = clear (entryRows (net .meant) i y) (both .1) in
     record {
       taken = both .0;
       accepted = sound (both .0);
@@ -31,8 +30,8 @@ asked net sound bs i y e =
 
 -- a route is refused as an entry is, and then for its room
 pub route-else : (net : Checked) (bs : List ℕ) (i y wide : ℕ)
-    → routeRefusal net bs i y wide ≡ entryRefusal net bs i y else refused (roomRows wide (length (nodesPassed net bs i y)))
+    → routeRefusal net bs i y wide ≡ entryRefusal net i y else refused (roomRows wide (length (nodesPassed net bs i y)))
 route-else net bs i y wide =
     let room = roomRows wide (length (nodesPassed net bs i y)) in
-    ap (λ (q : ℕ). net .refused else q) (rows-else (entryRows (net .meant) (steps bs) i y) room)
-    ∙ sym (else-assoc (net .refused) (refused (entryRows (net .meant) (steps bs) i y)) (refused room))
+    ap (λ (q : ℕ). net .refused else q) (rows-else (entryRows (net .meant) i y) room)
+    ∙ sym (else-assoc (net .refused) (refused (entryRows (net .meant) i y)) (refused room))

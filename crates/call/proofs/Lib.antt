@@ -1,4 +1,3 @@
-pub mod Ten
 pub mod Asked
 pub mod Passed
 pub mod Found

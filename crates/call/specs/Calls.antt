@@ -6,7 +6,7 @@ use mathlib.Core.List.{List, [], _∷_, _++_}
 use lib.ListN.{length}
 use Rattle.method.specs.Network.{Net}
 use Rattle.method.specs.Rules.{Phase, unstarted, started, stopped}
-use Rattle.method.specs.Steps.{State, Counts, Step, steps, run, counts, refused10}
+use Rattle.method.specs.Steps.{State, Counts, Step, steps, run, counts}
 use Rattle.method.specs.Entries.{Entry, phase, entry, stoppedTo}
 use Rattle.method.specs.Marks.{distanceOf, rowNumbers}
 use Rattle.method.specs.Route.{way}
@@ -29,7 +29,7 @@ stateAfter net bs = run (net .meant) (steps bs)
 abbrev pub entryAfter : Checked → List ℕ → ℕ → ℕ → Entry
 entryAfter net bs i y = entry (net .meant) (steps bs) i y
 
--- "run and write one node's file": "Then 11, the run (10), 12, 13", in a room of `wide` bytes
+-- "run and write one node's file": "Then 11, [..] 12, 13", in a room of `wide` bytes. No step list is refused.
 abbrev pub isUnstarted : Phase → Bool
 isUnstarted unstarted = true
 isUnstarted started = false
@@ -46,12 +46,8 @@ lateRows net bs i wide =
     -- "the file is longer than the room"
     ∷ roomRows wide (length (nodeFile one net bs i))
 
--- "the run (10)": "no room in a sent list"
-abbrev pub tenRows : Net → List Step → List Row
-tenRows net bs = 10 when refused10 net bs ∷ []
-
 abbrev pub writeRows : Net → List Step → ℕ → ℕ → List Row
-writeRows net bs i wide = askRows (net .n) i ++ (tenRows net bs ++ lateRows net bs i wide)
+writeRows net bs i wide = askRows (net .n) i ++ lateRows net bs i wide
 
 abbrev pub writeRefusal : Checked → List ℕ → ℕ → ℕ → ℕ
 writeRefusal net bs i wide = net .refused else refused (writeRows (net .meant) (steps bs) i wide)
@@ -64,11 +60,11 @@ abbrev pub writeRoom : Checked → List ℕ → ℕ → List ℕ → List ℕ
 writeRoom net bs i room = keptIf (writeRefusal net bs i (length room)) room (begins (fileAfter net bs i) room)
 
 -- The whole outcome of a run: all entries, row by row, in a room of `wide` numbers, and the counts.
-abbrev pub runRows : Net → List Step → ℕ → List Row
-runRows net bs wide = tenRows net bs ++ roomRows wide (2 * (net .n * net .n))
+abbrev pub runRows : Net → ℕ → List Row
+runRows net wide = roomRows wide (2 * (net .n * net .n))
 
-abbrev pub runRefusal : Checked → List ℕ → ℕ → ℕ
-runRefusal net bs wide = net .refused else refused (runRows (net .meant) (steps bs) wide)
+abbrev pub runRefusal : Checked → ℕ → ℕ
+runRefusal net wide = net .refused else refused (runRows (net .meant) wide)
 
 -- how many steps were taken, idle, unknown, and how many nodes have stopped
 abbrev pub countsOf : Checked → List ℕ → Counts
@@ -87,15 +83,15 @@ countsAfter net bs = countList (countsOf net bs) (stoppedOf net bs)
 abbrev pub entriesAfter : Checked → List ℕ → List ℕ
 entriesAfter net bs = rowNumbers (entryAfter net bs) (nodesOf net) (nodesOf net)
 
--- One entry: "Then 11, the run (10)"; 11 is for the node and for the target.
-abbrev pub entryRows : Net → List Step → ℕ → ℕ → List Row
-entryRows net bs i y = askRows (net .n) i ++ (askRows (net .n) y ++ tenRows net bs)
+-- One entry: "Then 11", for the node and for the target.
+abbrev pub entryRows : Net → ℕ → ℕ → List Row
+entryRows net i y = askRows (net .n) i ++ askRows (net .n) y
 
-abbrev pub entryRefusal : Checked → List ℕ → ℕ → ℕ → ℕ
-entryRefusal net bs i y = net .refused else refused (entryRows (net .meant) (steps bs) i y)
+abbrev pub entryRefusal : Checked → ℕ → ℕ → ℕ
+entryRefusal net i y = net .refused else refused (entryRows (net .meant) i y)
 
 abbrev pub entryAnswer : Checked → List ℕ → ℕ → ℕ → ℕ
-entryAnswer net bs i y = entryRefusal net bs i y else entryValues (entryAfter net bs i y)
+entryAnswer net bs i y = entryRefusal net i y else entryValues (entryAfter net bs i y)
 
 -- A route: the nodes after node i on the way to y, y last.
 abbrev pub nodesPassed : Checked → List ℕ → ℕ → ℕ → List ℕ
@@ -103,7 +99,7 @@ nodesPassed net bs i y = way (stateAfter net bs) y i
 
 -- 13 comes last
 abbrev pub routeRows : Net → List Step → ℕ → ℕ → ℕ → List Row
-routeRows net bs i y wide = entryRows net bs i y ++ roomRows wide (length (way (run net bs) y i))
+routeRows net bs i y wide = entryRows net i y ++ roomRows wide (length (way (run net bs) y i))
 
 abbrev pub routeRefusal : Checked → List ℕ → ℕ → ℕ → ℕ → ℕ
 routeRefusal net bs i y wide = net .refused else refused (routeRows (net .meant) (steps bs) i y wide)

@@ -21,9 +21,9 @@ pub record WritePromise (net : Checked) (bs : List ℕ) (i : ℕ) (room : List �
 
 -- zaq_run, zaq_run_arcs
 pub record RunPromise (net : Checked) (bs counts entries : List ℕ) (r : ℕ) (counts′ entries′ : List ℕ) : Type 0 where
-  pub answer : r ≡ runRefusal net bs (length entries)
-  pub counted : counts′ ≡ keptIf (runRefusal net bs (length entries)) counts (begins (countsAfter net bs) counts)
-  pub left : entries′ ≡ keptIf (runRefusal net bs (length entries)) entries (begins (entriesAfter net bs) entries)
+  pub answer : r ≡ runRefusal net (length entries)
+  pub counted : counts′ ≡ keptIf (runRefusal net (length entries)) counts (begins (countsAfter net bs) counts)
+  pub left : entries′ ≡ keptIf (runRefusal net (length entries)) entries (begins (entriesAfter net bs) entries)
 
 -- zaq_entry, zaq_entry_arcs
 abbrev pub EntryPromise : Checked → List ℕ → ℕ → ℕ → ℕ → Type 0

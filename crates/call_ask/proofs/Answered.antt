@@ -30,19 +30,19 @@ module _ (found : Found) (i y f : ℕ)
     (is : f ≡ found .refused else refused (askRows (getD (found .laid) nodesAt 0) i ++ askRows (getD (found .laid) nodesAt 0) y))
     (net : Checked)
     (finds : Finds net found) (bs : List ℕ) where
-  same : f ≡ entryRefusal net bs i y
-  same = same-refusal found i y f is net finds bs
+  same : f ≡ entryRefusal net i y
+  same = same-refusal found i y f is net finds
 
   -- what is refused is answered, and the room stays
   module _ (ne : f ≡ 0 → ⊥) where
     pub entry-refused : EntryPromise net bs i y f
-    entry-refused = same ∙ sym (else-some (entryRefusal net bs i y) (entryValues (entryAfter net bs i y)) (λ z. ne (same ∙ z)))
+    entry-refused = same ∙ sym (else-some (entryRefusal net i y) (entryValues (entryAfter net bs i y)) (λ z. ne (same ∙ z)))
 
     pub route-refused : (room : List ℕ) → RoutePromise net bs i y room f room
     route-refused room =
         let q = refused (roomRows (length room) (length (nodesPassed net bs i y))) in
         let e : routeRefusal net bs i y (length room) ≡ f =
-        route-else net bs i y (length room) ∙ else-some (entryRefusal net bs i y) q (λ z. ne (same ∙ z)) ∙ sym same in
+        route-else net bs i y (length room) ∙ else-some (entryRefusal net i y) q (λ z. ne (same ∙ z)) ∙ sym same in
         let r : routeRefusal net bs i y (length room) ≡ 0 → ⊥ = λ z. ne (sym e ∙ z) in
         record {
           answer = sym e ∙ sym (else-some (routeRefusal net bs i y (length room)) _ r);
@@ -51,7 +51,7 @@ module _ (found : Found) (i y f : ℕ)
 
   -- nothing is refused before the run
   module _ (none : f ≡ 0) (m : ℕ → Part) (c : Counts) (ran : Ran (found .laid) bs m c) where
-    clear : entryRefusal net bs i y ≡ 0
+    clear : entryRefusal net i y ≡ 0
     clear = sym same ∙ none
 
     state : stateOf m ≡ stateAfter net bs
@@ -62,7 +62,7 @@ module _ (found : Found) (i y f : ℕ)
     entry-answers h r eh er =
         er ∙ ap (λ (x : ℕ). values x (distanceOf (entryOf (stateOf m i .node) y))) eh
         ∙ ap (λ (st : State). entryValues (entryOf (st i .node) y)) state
-        ∙ sym (else-zero (entryRefusal net bs i y) (entryValues (entryAfter net bs i y)) clear)
+        ∙ sym (else-zero (entryRefusal net i y) (entryValues (entryAfter net bs i y)) clear)
 
     module _ (room : List ℕ) (k : ℕ) (count : k ≡ length (way (stateOf m) y i)) where
       passes : k ≡ length (nodesPassed net bs i y)
@@ -71,7 +71,7 @@ module _ (found : Found) (i y f : ℕ)
       pub route-short : length room < k → RoutePromise net bs i y room 13 room
       route-short lt =
           let e : routeRefusal net bs i y (length room) ≡ 13 =
-          route-else net bs i y (length room) ∙ else-zero (entryRefusal net bs i y) _ clear
+          route-else net bs i y (length room) ∙ else-zero (entryRefusal net i y) _ clear
           ∙ rw (lt-ltb (length room) (length (nodesPassed net bs i y)) (omega (arith, passes))) in
           record { answer = rw e; left = rw e }
 
@@ -79,7 +79,7 @@ module _ (found : Found) (i y f : ℕ)
           → room′ ≡ begins (way (stateOf m) y i) room → RoutePromise net bs i y room r room′
       route-answers le r room′ er eroom =
           let e : routeRefusal net bs i y (length room) ≡ 0 =
-          route-else net bs i y (length room) ∙ else-zero (entryRefusal net bs i y) _ clear
+          route-else net bs i y (length room) ∙ else-zero (entryRefusal net i y) _ clear
           ∙ rw (le-ltb (length room) (length (nodesPassed net bs i y)) (omega (arith, passes))) in
           record {
             answer =

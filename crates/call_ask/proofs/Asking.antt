@@ -1,17 +1,17 @@
 -- What is refused before the run is all that is refused; where nothing is, what the run leaves can be asked.
 use mathlib.Core.Path.{_≡_, refl, sym, ap, subst, _∙_}
-use mathlib.Core.List.{List, [], _∷_, _++_}
+use mathlib.Core.List.{List, _++_}
 use Prim.Native.Nat.{ℕ, zero, suc, _<_}
 use native.Mathlib.Omega.{arith}
 use lib.ListN.{length, getD}
 use Rattle.method.specs.Network.{Net}
-use Rattle.method.specs.Steps.{State, Counts, steps, refused10}
+use Rattle.method.specs.Steps.{State, Counts, steps}
 use Rattle.method.specs.Entries.{Entry, unknown, unreachable, known, entryOf}
 use Rattle.method.specs.Marks.{distanceOf, hopOf}
 use Rattle.method.specs.Route.{way}
 use Rattle.method.proofs.Bounded.{hop-bound}
-use Rattle.refusal.specs.Rows.{Row, _when_, refused, askRows, _else_}
-use Rattle.refusal.proofs.Rows.{clear, rows-else, else-none, else-both}
+use Rattle.refusal.specs.Rows.{refused, askRows, _else_}
+use Rattle.refusal.proofs.Rows.{clear, else-both}
 use Rattle.network.specs.Layout.{nodesAt, netOf}
 use Rattle.network.specs.Checked.{Checked}
 use Rattle.network.specs.Found.{Consistent, Finds}
@@ -21,9 +21,8 @@ use Rattle.run_cells.specs.Part.{Part, stateOf}
 use Rattle.run.specs.Ran.{Ran}
 use Rattle.run_entries.proofs.Reading.{ran-entry, no-mark}
 use Rattle.run_route.specs.Asked.{Asked}
-use Rattle.call.specs.Calls.{nodesOf, entryRefusal}
-use Rattle.call.proofs.Ten.{never-ten}
-use Rattle.call.proofs.Found.{refused-first, others-tell, accepted}
+use Rattle.call.specs.Calls.{entryRows, entryRefusal}
+use Rattle.call.proofs.Found.{refused-first, others-tell}
 use Rattle.call.proofs.Passed.{way-few}
 
 module _ (found : Found) (i y f : ℕ)
@@ -31,24 +30,15 @@ module _ (found : Found) (i y f : ℕ)
   abbrev n : ℕ
   n = getD (found .laid) nodesAt 0
 
-  -- the run refuses nothing more
-  pub same-refusal : (net : Checked) → Finds net found → (bs : List ℕ) → f ≡ entryRefusal net bs i y
-  same-refusal net finds bs = is ∙ go (found .refused) refl
+  -- the run refuses nothing
+  pub same-refusal : (net : Checked) → Finds net found → f ≡ entryRefusal net i y
+  same-refusal net finds = is ∙ go (found .refused) refl
     where
-      last : List Row
-      last = 10 when refused10 (net .meant) (steps bs) ∷ []
-
-      rows : List Row
-      rows = askRows (nodesOf net) i ++ (askRows (nodesOf net) y ++ last)
-
-      go : (r : ℕ) → found .refused ≡ r → r else refused (askRows n i ++ askRows n y) ≡ entryRefusal net bs i y
+      go : (r : ℕ) → found .refused ≡ r → r else refused (askRows n i ++ askRows n y) ≡ entryRefusal net i y
       go zero e =
-          let ten : refused last ≡ 0 = rw (never-ten (net .meant) (accepted net found finds e) bs) in
-          ap (λ (a : Net). refused (askRows (a .n) i ++ askRows (a .n) y)) (finds .meant e)
-          ∙ sym (others-tell net found finds e (refused rows) ∙ rows-else (askRows (nodesOf net) i ++ askRows (nodesOf net) y) last
-          ∙ ap (λ (q : ℕ). refused (askRows (nodesOf net) i ++ askRows (nodesOf net) y) else q) ten
-          ∙ else-none (refused (askRows (nodesOf net) i ++ askRows (nodesOf net) y)))
-      go (suc r) e = sym e ∙ refused-first net found finds (λ z. omega arith) (refused rows)
+          ap (λ (a : Net). refused (entryRows a i y)) (finds .meant e)
+          ∙ sym (others-tell net found finds e (refused (entryRows (net .meant) i y)))
+      go (suc r) e = sym e ∙ refused-first net found finds (λ z. omega arith) (refused (entryRows (net .meant) i y))
 
   -- where nothing is refused
   module _ (none : f ≡ 0) where

@@ -1,4 +1,4 @@
--- What is answered of a network that is refused, of a room that is short, and of a run: the run itself refuses nothing.
+-- What is answered of a network that is refused, of a room that is short, and of a run: the run refuses nothing.
 use mathlib.Core.Path.{_≡_, sym, ap, ap₂, _∙_}
 use mathlib.Core.List.{List, [], _∷_}
 use Prim.Native.Nat.{ℕ, _*_, _≤_, _<_}
@@ -22,19 +22,18 @@ use Rattle.run_cells.specs.Part.{Part, stateOf}
 use Rattle.run.specs.Ran.{Ran, tallied}
 use Rattle.call.specs.Calls.{nodesOf, entryAfter, runRows, runRefusal, countList, countsAfter, entriesAfter}
 use Rattle.call.specs.Promises.{RunPromise}
-use Rattle.call.proofs.Ten.{never-ten}
-use Rattle.call.proofs.Found.{refused-first, is-refused, others-tell, accepted}
+use Rattle.call.proofs.Found.{refused-first, is-refused, others-tell}
 
 module _ (net : Checked) (found : Found) (is : Finds net found) (bs numbers room : List ℕ) where
   -- a refused network is not run, and nothing is written
   pub refused-answers : (found .refused ≡ 0 → ⊥) → RunPromise net bs numbers room (found .refused) numbers room
   refused-answers ne =
-      let q = refused (runRows (net .meant) (steps bs) (length room)) in
+      let q = refused (runRows (net .meant) (length room)) in
       let r = is-refused net found is ne q in
       record {
         answer = refused-first net found is ne q;
-        counted = sym (left-alone (runRefusal net bs (length room)) numbers _ r);
-        left = sym (left-alone (runRefusal net bs (length room)) room _ r);
+        counted = sym (left-alone (runRefusal net (length room)) numbers _ r);
+        left = sym (left-alone (runRefusal net (length room)) room _ r);
       }
 
   module _ (none : found .refused ≡ 0) where
@@ -47,10 +46,9 @@ module _ (net : Checked) (found : Found) (is : Finds net found) (bs numbers room
     -- so is a room that is short
     pub short-answers : length room < 2 * (n * n) → RunPromise net bs numbers room 13 numbers room
     short-answers lt =
-        let ten = never-ten (net .meant) (accepted net found is none) bs in
         let wide : length room < 2 * (nodesOf net * nodesOf net) = rw (← same-nodes) lt in
-        let e : runRefusal net bs (length room) ≡ 13 =
-        others-tell net found is none _ ∙ rw (ten, lt-ltb (length room) (2 * (nodesOf net * nodesOf net)) wide) in
+        let e : runRefusal net (length room) ≡ 13 =
+        others-tell net found is none _ ∙ rw (lt-ltb (length room) (2 * (nodesOf net * nodesOf net)) wide) in
         record { answer = sym e; counted = rw e; left = rw e }
 
     -- what the run leaves is what is answered
@@ -58,10 +56,9 @@ module _ (net : Checked) (found : Found) (is : Finds net found) (bs numbers room
         → Ran (found .laid) bs m (tallied t i u) → stopped ≡ stoppedTo (stateOf m) n → numbers′ ≡ begins (t ∷ i ∷ u ∷ stopped ∷ []) numbers
         → room′ ≡ sets room 0 (rowNumbers (λ i. entryOf (stateOf m i .node)) n n) → RunPromise net bs numbers room 0 numbers′ room′
     run-answers m t i u stopped numbers′ room′ le ran S N R =
-        let ten = never-ten (net .meant) (accepted net found is none) bs in
         let wide : 2 * (nodesOf net * nodesOf net) ≤ length room = rw (← same-nodes) le in
-        let e : runRefusal net bs (length room) ≡ 0 =
-        others-tell net found is none _ ∙ rw (ten, le-ltb (length room) (2 * (nodesOf net * nodesOf net)) wide) in
+        let e : runRefusal net (length room) ≡ 0 =
+        others-tell net found is none _ ∙ rw (le-ltb (length room) (2 * (nodesOf net * nodesOf net)) wide) in
         let same = is .meant none in
         record {
           answer = sym e;
@@ -69,12 +66,12 @@ module _ (net : Checked) (found : Found) (is : Finds net found) (bs numbers room
               N
               ∙ ap₂ (λ (c : Counts) (k : ℕ). begins (countList c k) numbers) (ran .counted ∙ ap (λ (a : Net). counts a (steps bs)) same)
               (S ∙ ap₂ (λ (st : State) (k : ℕ). stoppedTo st k) (ran .state ∙ ap (λ (a : Net). run a (steps bs)) same) same-nodes)
-              ∙ sym (written (runRefusal net bs (length room)) numbers (begins (countsAfter net bs) numbers) e);
+              ∙ sym (written (runRefusal net (length room)) numbers (begins (countsAfter net bs) numbers) e);
           left =
               R
               ∙ ap₂ (λ (st : State) (k : ℕ). sets room 0 (rowNumbers (λ i. entryOf (st i .node)) k k))
               (ran .state ∙ ap (λ (a : Net). run a (steps bs)) same)
               same-nodes
               ∙ sets-begins (entriesAfter net bs) room (omega (arith, length-rows (entryAfter net bs) (nodesOf net) (nodesOf net)))
-              ∙ sym (written (runRefusal net bs (length room)) room (begins (entriesAfter net bs) room) e);
+              ∙ sym (written (runRefusal net (length room)) room (begins (entriesAfter net bs) room) e);
         }

@@ -30,8 +30,7 @@ use Rattle.call.specs.Answers.{values}
 use Rattle.call.specs.Files.{outcome, roomAfter, outcomeAnswer}
 use Rattle.call.specs.Calls.{nodesOf, isUnstarted, fileAfter, lateRows, writeRows, writeRefusal}
 use Rattle.call.specs.Promises.{WritePromise}
-use Rattle.call.proofs.Ten.{never-ten}
-use Rattle.call.proofs.Found.{refused-first, is-refused, others-tell, accepted, of-meant}
+use Rattle.call.proofs.Found.{refused-first, is-refused, others-tell, of-meant}
 use Rattle.call.specs.Files.{OneAnswer}
 use Rattle.call_write.specs.Filing.{heldFile}
 use Rattle.call_write.proofs.Records.{held-file}
@@ -122,13 +121,13 @@ module _ (net : Checked) (found : Found) (is : Finds net found) (bs : List ℕ) 
         let e : outside (nodesOf net) i ≡ true = of-meant net found is none (λ (a : Net). outside (a .n) i ≡ true) out in
         other-answers 11 (λ z. omega arith) (rw e)
 
-    -- after the run of the steps: 10 is never given, so 12 and 13 are left
+    -- after the run of the steps, which is never refused, 12 and 13 are left
     module _ (within : outside (netOf (found .laid) .n) i ≡ false) (m : ℕ → Part) (c : Counts) (ran : Ran (found .laid) bs m c)
         (k : ℕ) (read : k ≡ m i phaseAt) where
       late-tells : refused (writeRows (net .meant) (steps bs) i (length room)) ≡ refused (lateRows (net .meant) (steps bs) i (length room))
       late-tells =
           let e : outside (nodesOf net) i ≡ false = of-meant net found is none (λ (a : Net). outside (a .n) i ≡ false) within in
-          rw (e, never-ten (net .meant) (accepted net found is none) bs)
+          rw e
 
       -- a node that has not started has no file
       pub unstarted-answers : k ≡ 0 → WritePromise net bs i room 12 room

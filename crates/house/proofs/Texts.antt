@@ -23,10 +23,10 @@ use Rattle.house_text.specs.Lines.{houseText, refusedLine}
 use Rattle.house_text.specs.Handed.{entryBy, handedEntry}
 use Rattle.house_words.specs.Room.{Front}
 use Rattle.house_text.proofs.Laws.{laws as text-laws}
-use Rattle.call.specs.Calls.{nodesOf, entryAfter, runRows, runRefusal, countsAfter, entriesAfter, tenRows}
+use Rattle.call.specs.Calls.{nodesOf, entryAfter, runRows, runRefusal, countsAfter, entriesAfter}
 use Rattle.call.specs.Promises.{RunPromise}
 use Rattle.call.proofs.Found.{accepted, of-meant}
-use Rattle.house.specs.House.{houseRefusal, textOf, textFor}
+use Rattle.house.specs.House.{textOf, textFor}
 
 -- the same text
 pub same-front : (room after : List ℕ) (r : ℕ) (t u : List ℕ) → t ≡ u → Front room t after r → Front room u after r
@@ -53,11 +53,10 @@ module _ (net : Checked) (found : Found) (is : Finds net found) where
 
   module _ (bs numbers room : List ℕ) (wide : 2 * (16 * 16) ≤ length room) where
     -- 13 does not come up: the entries of 16 nodes have room
-    no-thirteen : runRefusal net bs (length room) ≡ houseRefusal net bs
+    no-thirteen : runRefusal net (length room) ≡ net .refused
     no-thirteen = go (net .refused) refl
       where
-        go : (N : ℕ) → net .refused ≡ N
-            → N else refused (runRows (net .meant) (steps bs) (length room)) ≡ N else refused (tenRows (net .meant) (steps bs))
+        go : (N : ℕ) → net .refused ≡ N → N else refused (runRows (net .meant) (length room)) ≡ N
         go zero none = rw (le-ltb (length room) (2 * (nodesOf net * nodesOf net)) (omega (arith, few none)))
         go (suc N) some = refl
 
@@ -68,7 +67,7 @@ module _ (net : Checked) (found : Found) (is : Finds net found) where
           sym (answer-by r (refusedLine r) _ ne) ∙ ap (λ (N : ℕ). textOf N (net .meant) (steps bs)) (ran .answer ∙ no-thirteen)
 
       module _ (none : r ≡ 0) where
-        zero-of-run : runRefusal net bs (length room) ≡ 0
+        zero-of-run : runRefusal net (length room) ≡ 0
         zero-of-run = sym (ran .answer) ∙ none
 
         taken : net .refused ≡ 0
@@ -97,8 +96,8 @@ module _ (net : Checked) (found : Found) (is : Finds net found) where
             ≡ textFor net bs
         handed-text n en =
             rw (
-              ran .counted ∙ written (runRefusal net bs (length room)) numbers (begins (countsAfter net bs) numbers) zero-of-run,
-              ran .left ∙ written (runRefusal net bs (length room)) room (begins (entriesAfter net bs) room) zero-of-run,
+              ran .counted ∙ written (runRefusal net (length room)) numbers (begins (countsAfter net bs) numbers) zero-of-run,
+              ran .left ∙ written (runRefusal net (length room)) room (begins (entriesAfter net bs) room) zero-of-run,
               en ∙ same-nodes taken,
             )
             (text-laws .same-text _ _ _ _ (nodesOf net) _ (entryAfter net bs) same-entry

@@ -5,10 +5,9 @@ use lib.ListN.{take, drop}
 use Rattle.method.specs.Network.{Net}
 use Rattle.method.specs.Steps.{Step, steps, run, counts}
 use Rattle.method.specs.Entries.{entry, stoppedTo}
-use Rattle.refusal.specs.Rows.{refused, answerBy, _else_}
+use Rattle.refusal.specs.Rows.{answerBy}
 use Rattle.network.specs.Bytes.{count, size}
 use Rattle.network.specs.Checked.{Checked, fromBytes}
-use Rattle.call.specs.Calls.{tenRows}
 use Rattle.house_text.specs.Lines.{houseText, refusedLine}
 
 -- "as many as its arc count asks for": always 3 or more, so an input under 3 bytes is all network
@@ -23,13 +22,9 @@ networkBytes input = take (asked input) input
 abbrev pub stepBytes : List ℕ → List ℕ
 stepBytes input = drop (asked input) input
 
--- what is refused: the network, then the run
-abbrev pub houseRefusal : Checked → List ℕ → ℕ
-houseRefusal net bs = net .refused else refused (tenRows (net .meant) (steps bs))
-
 -- "Input that ends inside the network is refusal 1, in its usual place"
 abbrev pub inputRefusal : List ℕ → ℕ
-inputRefusal input = houseRefusal (fromBytes (networkBytes input)) (stepBytes input)
+inputRefusal input = fromBytes (networkBytes input) .refused
 
 -- "one line of counts" ("S is how many nodes have stopped"), "then for each node and target in rising order" its line
 abbrev pub tableText : Net → List Step → List ℕ
@@ -43,7 +38,7 @@ textOf N net bs = answerBy N (refusedLine N) (tableText net bs)
 
 -- the text of a network and step bytes
 abbrev pub textFor : Checked → List ℕ → List ℕ
-textFor net bs = textOf (houseRefusal net bs) (net .meant) (steps bs)
+textFor net bs = textOf (net .refused) (net .meant) (steps bs)
 
 -- the whole text of an input
 abbrev pub text : List ℕ → List ℕ

@@ -1,4 +1,4 @@
--- Laws a to k hold of every network.
+-- Laws a to l hold of every network.
 use mathlib.Core.List.{_++_}
 use Rattle.method.specs.Network.{Net}
 use Rattle.method.specs.Laws.{Laws}
@@ -9,12 +9,13 @@ use Rattle.method.proofs.Said.{filled-is-right, final, orders-agree, st
 use Rattle.method.proofs.Said.{hop-zero}
 use Rattle.method.proofs.Hops.{hops-lead}
 use Rattle.method.proofs.Recorded.{records-sound, first-positive}
-use Rattle.method.proofs.Bounded.{sent-bound, never-10, distance-bound, never-a-mark}
+use Rattle.method.proofs.Bounded.{distance-bound, never-a-mark}
 use Rattle.method.proofs.Descent.{positive-loopless}
 use Rattle.method.proofs.Progress.{some-step}
 use Rattle.method.proofs.Counted.{step-counts, total, each}
 use Rattle.method.proofs.Handed.{hands-over, others-same}
 use Rattle.method.proofs.Enough.{enough, same-choice}
+use Rattle.method.proofs.Tight.{sent-tight}
 
 pub laws : (net : Net) → Laws net
 laws net =
@@ -41,13 +42,12 @@ laws net =
       h-hop = λ va bs. hop-zero net va (nodes net bs) (run-lawful net va bs);
       i-records = λ va bs i at. records-sound net va (nodes net bs) (run-lawful net va bs) i at;
       i-first = λ va positive bs i g e. first-positive net va (nodes net bs) (run-lawful net va bs) i positive g e;
-      j-sent = λ va bs. sent-bound net va (nodes net bs) (run-lawful net va bs);
       j-only-grows = λ va bs cs i. run-onward net va bs cs i .node .moreSent;
-      j-never-10 = λ small va bs. never-10 net va bs small;
       j-distance = λ va bs i y d h at e. distance-bound net va (nodes net bs) (run-lawful net va bs) i y d h at e;
       j-no-mark = λ small va bs i y d h at e. never-a-mark net va bs small i y d h at e;
       k-enough = enough net;
       k-waits = λ va bs i up. run-ok net va bs i .waits up;
       k-delivered = λ va bs i h. run-ok net va bs i .site .delivered-le h;
       k-same-choice = same-choice net;
+      l-sent = λ va bs i at. sent-tight net va (nodes net bs) (run-lawful net va bs) i at;
     }

@@ -1,4 +1,4 @@
--- Laws l to p hold of every network.
+-- Laws m to p hold of every network.
 use mathlib.Core.Path.{ap}
 use Rattle.method.specs.Network.{Net}
 use Rattle.method.specs.Entries.{others, nodes}
@@ -7,7 +7,6 @@ use Rattle.method.proofs.Always.{run-lawful}
 use Rattle.method.proofs.Descent.{positive-loopless}
 use Rattle.method.proofs.Ways.{ways-lead, way-short}
 use Rattle.method.proofs.Loops.{zero-exact, depth-falls, depth-bound}
-use Rattle.method.proofs.Tight.{sent-tight}
 use Rattle.method.proofs.Same.{orders-begin, stopped-same}
 use Rattle.method.proofs.Led.{records-led}
 use Rattle.method.proofs.Progress.{some-step}
@@ -17,7 +16,6 @@ use Rattle.method.proofs.Ends.{runs-end}
 pub requests : (net : Net) → Requests net
 requests net =
     record {
-      l-sent = λ va bs i at. sent-tight net va (nodes net bs) (run-lawful net va bs) i at;
       m-orders = λ va ranked bs cs i. orders-begin net va ranked (nodes net bs) (nodes net cs) (run-lawful net va bs)
           (run-lawful net va cs) i;
       m-stopped = λ va ranked bs cs i p q. ap (others i)

@@ -1,22 +1,19 @@
--- What is proved of the method for later requests, for every step list: laws l to p. As in laws a to k, each says what it asks of the
+-- What is proved of the method for later requests, for every step list: laws m to p. As in laws a to l, each says what it asks of the
 -- network; none asks for positive lengths.
 use mathlib.Core.Path.{_≡_}
 use mathlib.Core.Logic.{_⊎_, _↔_}
 use mathlib.Core.Bool.{true}
 use mathlib.Core.List.{List, _∷_, _++_}
-use Prim.Native.Nat.{ℕ, _+_, _-_, _*_, _≤_, _<_}
+use Prim.Native.Nat.{ℕ, _+_, _*_, _≤_, _<_}
 use lib.ListN.{length}
 use Rattle.method.specs.Distinct.{Distinct}
 use Rattle.method.specs.Network.{Net, IsNode, IsArc, Sizes, Valid, Positive, Ranked}
-use Rattle.method.specs.Steps.{sents, Step, byteStep, taken, step, run, counts}
+use Rattle.method.specs.Steps.{Step, byteStep, taken, step, run, counts}
 use Rattle.method.specs.Entries.{known, nodes, entry, Stopped, records}
 use Rattle.method.specs.Order.{Begins, AllLed}
 use Rattle.method.specs.Loop.{ZeroLoop, Loopless, depth, zeroLoop, Way}
 
 pub record Requests (net : Net) : Type 0 where
-  -- l. (K6) A sent list has at most (n − 1) × LMAX + n + 2 messages. Some networks reach this (proofs/Reached).
-  pub l-sent : Valid net → (bs : List Step) (i : ℕ) → IsNode (net .n) i
-      → length (sents (run net bs) i) ≤ (net .n - 1) * net .lmax + net .n + 2
   -- m. (K10) Of a node's records after two step lists, one list is the beginning of the other; two runs in which the node has stopped
   -- have the same.
   pub m-orders : Valid net → Ranked net → (bs cs : List Step) (i : ℕ)

@@ -1,7 +1,9 @@
--- Rooms of the sizes that the header calls always enough are never too short.
+-- An accepted network is refused nothing where the nodes asked for are nodes of the house and a room has the size that the header calls
+-- always enough; and so is a room for all entries of a file.
 use mathlib.Core.Path.{_≡_, refl, sym, ap, _∙_}
-use mathlib.Core.Logic.{_≢_}
-use mathlib.Core.List.{List, [], _∷_}
+use mathlib.Core.Logic.{inl, inr, _≢_}
+use mathlib.Core.Bool.{false}
+use mathlib.Core.List.{List}
 use Prim.Native.Nat.{ℕ, zero, suc, _*_, _≤_}
 use native.Mathlib.Nat.{mul-le-mul}
 use native.Mathlib.Omega.{arith}
@@ -9,63 +11,87 @@ use lib.ListN.{length}
 use borrow.Author.Tests.{le-ltb}
 use Rattle.bits.specs.Bits.{bitsOf}
 use Rattle.bits.proofs.Bytes.{field-below}
-use Rattle.method.specs.Steps.{steps, refused10}
+use Rattle.method.specs.Network.{IsNode, Accepted}
+use Rattle.method.specs.Rules.{Phase, unstarted, started, stopped}
+use Rattle.method.specs.Steps.{steps}
+use Rattle.method.specs.Entries.{phase}
 use Rattle.refusal.specs.declared.Refusal.{Refusal}
-use Rattle.refusal.specs.Rows.{_when_, refused, roomRows, _else_}
-use Rattle.refusal.proofs.Rows.{rows-else}
+use Rattle.refusal.specs.Rows.{Row, refused, roomRows, _else_, outside}
+use Rattle.refusal.proofs.Rows.{_next_, number-clear, rows-else, else-zero}
+use Rattle.refusal.proofs.Tests.{not-outside}
 use Rattle.network.specs.Bytes.{size}
-use Rattle.network.specs.Checked.{Checked, OfMethod}
+use Rattle.network.specs.Checked.{Checked, IsAccepted}
 use Rattle.table.specs.File.{one}
 use Rattle.table.specs.Reader.{headerAt, fileRows, reading}
+use Rattle.table.specs.Laws.{Started}
+use Rattle.table.proofs.Proved.{at-most-27}
 use Rattle.call.specs.Files.{outcomeRefusal, entriesOutcome}
-use Rattle.call.specs.Calls.{nodesOf, runRefusal, entryRows, entryRefusal, nodesPassed, routeRefusal, packRefusal}
-use Rattle.call.proofs.Asked.{asked, route-else}
+use Rattle.call.specs.Calls.{nodesOf, isUnstarted, fileAfter, writeRows, writeRefusal, runRows, runRefusal, entryRows, entryRefusal}
+use Rattle.call.specs.Calls.{nodesPassed, routeRefusal, packRows, packRefusal}
+use Rattle.call.proofs.Asked.{route-else}
 use Rattle.call.proofs.Passed.{way-few}
-use Rattle.zaqfinell.proofs.Requirement1.{table-refused}
-use Rattle.zaqfinell.proofs.Small.{each-told, file-not-13}
-
--- of two numbers one after the other, neither is 13
-neither-13 : (N M : ℕ) → N ≢ 13 → (N ≡ 0 → M ≢ 13) → N else M ≢ 13
-neither-13 zero M n m = m refl
-neither-13 (suc N) M n m = n
+use Rattle.zaqfinell.specs.Numbers.{ofFile, NoneOr}
+use Rattle.zaqfinell.proofs.Refused.{table-refused}
+use Rattle.zaqfinell.proofs.Numbers.{of-file}
 
 -- a room that is as wide as what it takes is not refused
-enough : (wide long : ℕ) → long ≤ wide → refused (roomRows wide long) ≢ 13
-enough wide long le = rw (le-ltb wide long le) (λ e. omega arith)
+enough : (wide long : ℕ) → long ≤ wide → refused (roomRows wide long) ≡ 0
+enough wide long le = rw (le-ltb wide long le)
 
-module _ (net : Checked) (sound : OfMethod net) (not-13 : net .refused ≢ 13) where
+has-started : (ph : Phase) → ph ≢ unstarted → isUnstarted ph ≡ false
+has-started unstarted up = absurd (up refl)
+has-started started up = refl
+has-started stopped up = refl
+
+module _ (net : Checked) (taken : IsAccepted net) (fit : Accepted (net .meant)) where
+  -- no row after the network's holds
+  clear : (rows : List Row) → refused rows ≡ 0 → net .refused else refused rows ≡ 0
+  clear rows e = else-zero (net .refused) (refused rows) taken ∙ e
+
+  inside : (i : ℕ) → IsNode (nodesOf net) i → outside (nodesOf net) i ≡ false
+  inside i at = not-outside (nodesOf net) i (at .0) (at .1)
+
+  -- a file has 27 bytes at most
+  pub write-taken : (bs : List ℕ) (i wide : ℕ) → Started (net .meant) (steps bs) i → 27 ≤ wide → writeRefusal net bs i wide ≡ 0
+  write-taken bs i wide up le =
+      let few = at-most-27 (net .meant) fit (steps bs) i up in
+      let rows = writeRows (net .meant) (steps bs) i wide in
+      clear rows (number-clear rows (inside i (up .0) next has-started (phase (net .meant) (steps bs) i) (up .1) next
+      le-ltb wide (length (fileAfter net bs i)) (omega arith) next tt))
+
   -- 16 nodes have 2 * 16 * 16 numbers
-  pub run-fits : (bs : List ℕ) → runRefusal net bs 512 ≢ 13
-  run-fits bs =
-      neither-13 (net .refused) _ not-13
-      (λ z e.
-      let few = sound z .sizes .nodes .1 in
+  pub run-taken : (wide : ℕ) → 512 ≤ wide → runRefusal net wide ≡ 0
+  run-taken wide le =
+      let few = fit .sizes .nodes .1 in
       let all : nodesOf net * nodesOf net ≤ 16 * 16 = mul-le-mul few few in
-      let room = roomRows 512 (2 * (nodesOf net * nodesOf net)) in
-      let ten = 10 when refused10 (net .meant) (steps bs) ∷ [] in
-      neither-13 (refused ten) (refused room) (each-told (λ (N : ℕ). N ≢ 13) ten (λ q. omega arith) (λ q. omega arith, tt))
-      (λ q. enough 512 (2 * (nodesOf net * nodesOf net)) (omega arith))
-      (sym (rows-else ten room) ∙ e))
+      clear (runRows (net .meant) wide) (enough wide (2 * (nodesOf net * nodesOf net)) (omega arith))
 
-  entry-not-13 : (bs : List ℕ) (i y : ℕ) → entryRefusal net bs i y ≢ 13
-  entry-not-13 bs i y =
-      neither-13 (net .refused) _ not-13
-      (λ z. each-told (λ (N : ℕ). N ≢ 13) (entryRows (net .meant) (steps bs) i y) (λ e. omega arith)
-      (λ e. omega arith, (λ e. omega arith, (λ e. omega arith, tt))))
+  pub entry-taken : (i y : ℕ) → IsNode (nodesOf net) i → IsNode (nodesOf net) y → entryRefusal net i y ≡ 0
+  entry-taken i y at to =
+      let rows = entryRows (net .meant) i y in
+      clear rows (number-clear rows (inside i at next inside y to next tt))
 
   -- a way passes fewer nodes than there are
-  pub route-fits : (bs : List ℕ) (i y : ℕ) → routeRefusal net bs i y 15 ≢ 13
-  route-fits bs i y e =
-      neither-13 (entryRefusal net bs i y) (refused (roomRows 15 (length (nodesPassed net bs i y)))) (entry-not-13 bs i y)
-      (λ z.
-      let a = asked net sound bs i y z in
-      enough 15 (length (nodesPassed net bs i y)) (omega (arith, way-few (net .meant) (a .accepted) (steps bs) i y (a .node))))
-      (sym (route-else net bs i y 15) ∙ e)
+  pub route-taken : (bs : List ℕ) (i y wide : ℕ) → IsNode (nodesOf net) i → IsNode (nodesOf net) y → 15 ≤ wide
+      → routeRefusal net bs i y wide ≡ 0
+  route-taken bs i y wide at to le =
+      route-else net bs i y wide
+      ∙ else-zero (entryRefusal net i y) _ (entry-taken i y at to)
+      ∙ enough wide (length (nodesPassed net bs i y)) (omega (arith, way-few (net .meant) fit (steps bs) i y at))
 
   -- 240 arcs have 360 bytes, after 3
-  pub pack-fits : packRefusal net 363 ≢ 13
-  pack-fits = neither-13 (net .refused) _ not-13
-      (λ z. enough 363 (size (length (net .meant .arcs))) (omega (arith, sound z .sizes .arcs)))
+  pub pack-taken : (wide : ℕ) → 363 ≤ wide → packRefusal net wide ≡ 0
+  pack-taken wide le = clear (packRows (net .meant) wide) (enough wide (size (length (net .meant .arcs))) (omega (arith, fit .sizes .arcs)))
+
+-- 13 is none of a file's own
+file-not-13 : (N : ℕ) → NoneOr ofFile N → N ≢ 13
+file-not-13 N (inl e) q = omega arith
+file-not-13 N (inr (inl e)) q = omega arith
+file-not-13 N (inr (inr (inl e))) q = omega arith
+file-not-13 N (inr (inr (inr (inl e)))) q = omega arith
+file-not-13 N (inr (inr (inr (inr (inl e))))) q = omega arith
+file-not-13 N (inr (inr (inr (inr (inr (inl e)))))) q = omega arith
+file-not-13 N (inr (inr (inr (inr (inr (inr p)))))) q = absurd p
 
 -- a file's header has 4 bits for the number of its nodes
 pub table-fits : (file room : List ℕ) → 32 ≤ length room → outcomeRefusal (entriesOutcome (reading one file) room) .number ≢ 13
@@ -74,6 +100,10 @@ table-fits file room wide e =
     let long = 2 * headerAt one (bitsOf file) .n in
     let short = roomRows (length room) long in
     let told = ap (λ (r : Refusal). r .number) (table-refused file room) ∙ rows-else (fileRows one file) short in
-    neither-13 (refused (fileRows one file)) (refused short) (file-not-13 file)
-    (λ z. enough (length room) long (omega (arith, field-below file 8 4)))
+    by-file (refused (fileRows one file)) (file-not-13 (refused (fileRows one file)) (of-file file))
+    (refused short) (enough (length room) long (omega (arith, field-below file 8 4)))
     (sym told ∙ e)
+  where
+    by-file : (N : ℕ) → N ≢ 13 → (M : ℕ) → M ≡ 0 → N else M ≢ 13
+    by-file zero n M z e = omega arith
+    by-file (suc N) n M z e = n e

@@ -7,23 +7,19 @@ use mathlib.Core.List.{List, [], _∷_, _++_, map-append}
 use Prim.Native.Nat.{ℕ, zero, suc, _+_, _≤_, _<_}
 use native.Mathlib.Omega.{arith}
 use lib.ListN.{length, take, length-map}
-use lib.Dec.{ltb}
-use borrow.Author.Tests.{ltb-true}
 use Rattle.method.specs.If.{if_then_else_}
-use Rattle.method.specs.Network.{Arc, Net, IsNode}
-use Rattle.method.specs.Rules.{Filled, Phase, unstarted, started, stopped}
-use Rattle.method.specs.Steps.{State, Step, steps, byteStep, counts, counted, refused10}
-use Rattle.method.specs.Entries.{Entry, unknown, nodes, entry, unreachable, known, find, said, phase, table, Stopped, hasStopped}
+use Rattle.method.specs.Network.{Arc, Net, IsNode, Accepted}
+use Rattle.method.specs.Rules.{Filled, Phase, stopped}
+use Rattle.method.specs.Steps.{State, Step, steps, byteStep, counts, counted}
+use Rattle.method.specs.Entries.{Entry, unknown, nodes, entry, unreachable, known, find, said, table, Stopped, hasStopped}
 use Rattle.method.specs.Laws.{Leads, arrived, hop}
 use Rattle.method.proofs.Proved.{laws as method-laws}
 use Rattle.method.proofs.Always.{run-lawful}
 use Rattle.method.proofs.Said.{unreachable-no-chain}
 use Rattle.bits.proofs.Bytes.{length-packed}
-use Rattle.refusal.specs.Rows.{_when_, refused, _else_, outside}
-use Rattle.refusal.proofs.Rows.{else-both}
+use Rattle.refusal.proofs.Rows.{else-zero, else-both}
 use Rattle.network.specs.Bytes.{size, netBits, bytesOf}
-use Rattle.network.specs.Checked.{Checked, fromBytes, fromList, OfMethod}
-use Rattle.refusal.proofs.Tests.{inside}
+use Rattle.network.specs.Checked.{Checked, IsAccepted, fromBytes, fromList}
 use Rattle.method.specs.Room.{begins}
 use Rattle.method.proofs.Numbers.{last-or-before}
 use Rattle.method.proofs.Room.{written, begins-read}
@@ -32,20 +28,18 @@ use Rattle.run_entries.proofs.Reading.{stopped-le}
 use Rattle.method.specs.Entries.{isStopped, stoppedTo}
 use Rattle.table.specs.File.{one}
 use Rattle.table.specs.Reader.{entryRead}
-use Rattle.table.proofs.Proved.{laws as file-laws, at-most-27}
+use Rattle.table.specs.Laws.{Started}
+use Rattle.table.proofs.Proved.{laws as file-laws}
 use Rattle.method.specs.Route.{route, passed}
 use Rattle.method.specs.RouteLaws.{Over, lastOf}
 use Rattle.method.proofs.RouteLaws.{laws as route-laws}
-use Rattle.call.proofs.Asked.{Asked, asked}
 use Rattle.call.specs.Files.{readAnswer}
 use Rattle.call.specs.Calls.{nodesOf, stateAfter, entryAfter, countsOf, stoppedOf, entryRefusal, entryAnswer}
-use Rattle.call.specs.Calls.{nodesPassed, routeRefusal, routeRoom, isUnstarted, fileAfter, writeRows, writeRefusal, writeRoom}
+use Rattle.call.specs.Calls.{nodesPassed, routeRefusal, routeRoom, fileAfter, writeRefusal, writeRoom}
 use Rattle.call.specs.Calls.{packRefusal, packRoom}
 use Rattle.zaqfinell.specs.Requirement2.{IsSo, Followed, RightTables, Requirement2}
-use Rattle.zaqfinell.proofs.Small.{early-bytes, early-list}
 use Rattle.zaqfinell.proofs.Ending.{at-end, all-or-one, ends}
-use Rattle.zaqfinell.proofs.Enough.{run-fits, route-fits, pack-fits, table-fits}
-use Rattle.zaqfinell.proofs.Asked.{answered, wrote, beside}
+use Rattle.zaqfinell.proofs.Enough.{write-taken, run-taken, entry-taken, route-taken, pack-taken, table-fits}
 
 -- where as many have stopped as there are, each has
 all-stopped : (st : State) (k : ℕ) → stoppedTo st k ≡ k → (j : ℕ) → IsNode k j → isStopped (st j) ≡ true
@@ -82,28 +76,17 @@ hop-known net bs i y d h ne is (hop g l r e arc sum lt onward) =
     let same : g ≡ h = cc in
     subst (λ (x : ℕ). Known net bs x y) same (leads-known net bs y g r onward)
 
--- 13 is given only where the rows before it do not hold
-only-13 : (o t u v : Bool) → refused (11 when o ∷ 10 when t ∷ 12 when u ∷ 13 when v ∷ []) ≡ 13 → (o ≡ false) × (u ≡ false) × (v ≡ true)
-only-13 true t u v e = absurd (omega arith)
-only-13 false true u v e = absurd (omega arith)
-only-13 false false true v e = absurd (omega arith)
-only-13 false false false true e = (refl, refl, refl)
-only-13 false false false false e = absurd (omega arith)
-
--- of a network that is handed over, whose check sees to it that it is one of the method
-module _ (net : Checked) (sound : OfMethod net) (not-13 : net .refused ≢ 13) where
+-- of an accepted network, which is one of the method
+module _ (net : Checked) (taken : IsAccepted net) (fit : Accepted (net .meant)) where
   -- what an entry says is so
-  right : (bs : List ℕ) (i y : ℕ) → entryRefusal net bs i y ≡ 0 → IsSo (net .meant) i y (entryAfter net bs i y)
-  right bs i y e = go (entryAfter net bs i y) refl
+  right : (bs : List ℕ) (i y : ℕ) → IsSo (net .meant) i y (entryAfter net bs i y)
+  right bs i y = go (entryAfter net bs i y) refl
     where
-      a : Asked net i y
-      a = asked net sound bs i y e
-
       go : (x : Entry) → entryAfter net bs i y ≡ x → IsSo (net .meant) i y x
       go unknown is = tt
-      go unreachable is = unreachable-no-chain (net .meant) (a .accepted .valid) (nodes (net .meant) (steps bs))
-          (run-lawful (net .meant) (a .accepted .valid) (steps bs)) i y is .1
-      go (known d h) is = method-laws (net .meant) .a-filled-is-right (a .accepted .valid) (steps bs) i y d h is
+      go unreachable is = unreachable-no-chain (net .meant) (fit .valid) (nodes (net .meant) (steps bs))
+          (run-lawful (net .meant) (fit .valid) (steps bs)) i y is .1
+      go (known d h) is = method-laws (net .meant) .a-filled-is-right (fit .valid) (steps bs) i y d h is
 
   -- an entry of a node that has stopped is not unknown
   not-unknown : (bs : List ℕ) (i y : ℕ) → Stopped (net .meant) (steps bs) i → entryAfter net bs i y ≢ unknown
@@ -116,19 +99,18 @@ module _ (net : Checked) (sound : OfMethod net) (not-13 : net .refused ≢ 13) w
       go none z = let w : _≡_ {A = ℕ} 0 1 = cc in omega arith
       go (some f) z = let w : _≡_ {A = ℕ} 0 1 = cc in omega arith
 
-  filled : (bs : List ℕ) → stoppedOf net bs ≡ nodesOf net → (i y : ℕ) → entryRefusal net bs i y ≡ 0
+  filled : (bs : List ℕ) → stoppedOf net bs ≡ nodesOf net → (i y : ℕ) → IsNode (nodesOf net) i
       → Stopped (net .meant) (steps bs) i × (entryAfter net bs i y ≢ unknown)
-  filled bs all i y e =
-      let stop = at-end _ (all-stopped (stateAfter net bs) (nodesOf net) all i (asked net sound bs i y e .node)) in
+  filled bs all i y at =
+      let stop = at-end _ (all-stopped (stateAfter net bs) (nodesOf net) all i at) in
       (stop, not-unknown bs i y stop)
 
   -- one step more
-  progress : (bs : List ℕ) → net .refused ≡ 0 → stoppedOf net bs < nodesOf net
+  progress : (bs : List ℕ) → stoppedOf net bs < nodesOf net
       → (b : ℕ) × (b ≤ 255) × (countsOf net (bs ++ (b ∷ [])) .taken ≡ suc (countsOf net bs .taken))
-  progress bs e lt =
-      let a = sound e in
+  progress bs lt =
       let j = one-working (stateAfter net bs) (nodesOf net) lt in
-      let s = method-laws (net .meant) .e-some-step (a .sizes) (a .valid) (a .positive) (steps bs) (j .0) (j .1)
+      let s = method-laws (net .meant) .e-some-step (fit .sizes) (fit .valid) (fit .positive) (steps bs) (j .0) (j .1)
       (λ st. true≢false (sym (ap hasStopped st) ∙ j .2)) in (
         s .0,
         s .1,
@@ -141,14 +123,13 @@ module _ (net : Checked) (sound : OfMethod net) (not-13 : net .refused ≢ 13) w
   are-route : (bs : List ℕ) (i y d h : ℕ) → entryAfter net bs i y ≡ known d h → nodesPassed net bs i y ≡ route (stateAfter net bs) y i
   are-route bs i y d h is = ap (λ (x : Entry). passed x (route (stateAfter net bs) y i)) is
 
-  way : (bs : List ℕ) (i y d h : ℕ) → entryRefusal net bs i y ≡ 0 → entryAfter net bs i y ≡ known d h → Followed net bs i y d h
-  way bs i y d h e is =
-      let a = asked net sound bs i y e in
-      let r = route-laws (net .meant) .arrives (a .accepted) (steps bs) i y d h (a .node) is in
+  way : (bs : List ℕ) (i y d h : ℕ) → IsNode (nodesOf net) i → entryAfter net bs i y ≡ known d h → Followed net bs i y d h
+  way bs i y d h at is =
+      let r = route-laws (net .meant) .arrives fit (steps bs) i y d h at is in
       let here = are-route bs i y d h is in
       let onward : i ≢ y → Known (net .meant) (steps bs) h y =
       λ ne. hop-known (net .meant) (steps bs) i y d h ne is
-      (method-laws (net .meant) .f-hops-lead (a .accepted .valid) (a .accepted .positive) (steps bs) i y d h is) in
+      (method-laws (net .meant) .f-hops-lead (fit .valid) (fit .positive) (steps bs) i y d h is) in
       record {
         here = λ q. here ∙ r .here q;
         next = λ ne. here ∙ r .next ne ∙ ap (λ (xs : List ℕ). h ∷ xs) (sym (are-route bs h y (onward ne .0) (onward ne .1) (onward ne .2)));
@@ -171,46 +152,31 @@ module _ (net : Checked) (sound : OfMethod net) (not-13 : net .refused ≢ 13) w
       ap (take (length (fileAfter net bs i))) (written (writeRefusal net bs i (length room)) room (begins (fileAfter net bs i) room) e)
       ∙ begins-read (fileAfter net bs i) room
 
-  -- 27 bytes are enough
-  fits : (bs : List ℕ) (i : ℕ) → writeRefusal net bs i 27 ≢ 13
-  fits bs i = by-net (net .refused) refl
-    where
-      long : ℕ
-      long = length (fileAfter net bs i)
-
-      by-net : (r : ℕ) → net .refused ≡ r → r else refused (writeRows (net .meant) (steps bs) i 27) ≢ 13
-      by-net (suc r) z e = not-13 (z ∙ e)
-      by-net zero z e =
-          let p = only-13 (outside (nodesOf net) i) (refused10 (net .meant) (steps bs)) (isUnstarted (phase (net .meant) (steps bs) i))
-          (ltb 27 long) e in
-          let up : phase (net .meant) (steps bs) i ≢ unstarted = λ q. true≢false (sym (ap isUnstarted q) ∙ p .1) in
-          omega (arith, ltb-true 27 long (p .2), at-most-27 (net .meant) (sound z) (steps bs) i (inside (nodesOf net) i (p .0), up))
-
   -- read back
-  same : (bs : List ℕ) (i wide : ℕ) → writeRefusal net bs i wide ≡ 0 → (y : ℕ) → IsNode (nodesOf net) y
+  same : (bs : List ℕ) (i : ℕ) → Started (net .meant) (steps bs) i → (y : ℕ) → IsNode (nodesOf net) y
       → readAnswer (entryRead one (fileAfter net bs i) y) ≡ entryAnswer net bs i y
-  same bs i wide e y at =
-      let w = wrote net sound bs i wide e in
-      ap readAnswer (file-laws (net .meant) (w .accepted) .a-same-entries (steps bs) i (w .started) y at)
-      ∙ sym (answered net bs i y (beside net bs i y w at))
+  same bs i up y at =
+      ap readAnswer (file-laws (net .meant) fit .a-same-entries (steps bs) i up y at)
+      ∙ sym (else-zero (entryRefusal net i y) _ (entry-taken net taken fit i y (up .0) at))
 
   pub right-tables : RightTables net
   right-tables =
       record {
         right = right;
-        exactly = λ bs i y e stop. method-laws (net .meant) .d-unreachable (asked net sound bs i y e .accepted .valid) (steps bs) i stop y;
+        exactly = λ bs i y stop. method-laws (net .meant) .d-unreachable (fit .valid) (steps bs) i stop y;
         filled = filled;
         progress = progress;
-        ends = λ bs e. ends net (sound e) bs;
+        ends = ends net fit;
         total = λ bs. method-laws (net .meant) .g-total (steps bs) ∙ length-map bs byteStep;
         way = way;
         route-room = route-room;
         written = file-room;
-        fits = fits;
-        run-fits = run-fits net sound not-13;
-        route-fits = route-fits net sound not-13;
-        pack-fits = pack-fits net sound not-13;
         same = same;
+        write-taken = write-taken net taken fit;
+        run-taken = run-taken net taken fit;
+        entry-taken = entry-taken net taken fit;
+        route-taken = route-taken net taken fit;
+        pack-taken = pack-taken net taken fit;
       }
 
 -- the bytes of an arc list, in the room
@@ -232,8 +198,8 @@ both-entries n lmax ar room e =
 pub requirement2 : Requirement2
 requirement2 =
     record {
-      bytes = λ s. right-tables (fromBytes s) (checks .bytes-accepted s) (early-bytes s .1);
-      list = λ n lmax ar. right-tables (fromList n lmax ar) (checks .list-accepted n lmax ar) (early-list n lmax ar .1);
+      bytes = λ s taken. right-tables (fromBytes s) taken (checks .bytes-accepted s taken);
+      list = λ n lmax ar taken. right-tables (fromList n lmax ar) taken (checks .list-accepted n lmax ar taken);
       both-entries = both-entries;
       table-fits = table-fits;
     }

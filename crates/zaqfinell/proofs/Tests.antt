@@ -1,18 +1,14 @@
 -- The tests mean what 01 says.
-use mathlib.Core.Path.{_≡_, refl, sym, subst}
+use mathlib.Core.Path.{_≡_, refl, sym}
 use mathlib.Core.Logic.{_⊎_, inl, inr}
 use mathlib.Core.Bool.{Bool, true, false, _&&_, _||_, true≢false}
 use mathlib.Core.List.{List, [], _∷_}
-use Prim.Native.Nat.{ℕ, zero, suc, _<_}
-use native.Mathlib.Omega.{arith}
-use lib.Dec.{ltb, eqb}
-use lib.ListN.{length}
-use borrow.Author.Tests.{eqb-true, eq-eqb, ltb-true, lt-ltb}
-use Rattle.method.specs.Network.{Arc, IsNode, IsArc}
+use Prim.Native.Nat.{ℕ}
+use lib.Dec.{eqb}
+use borrow.Author.Tests.{eqb-true, eq-eqb}
+use Rattle.method.specs.Network.{Arc, IsArc}
 use Rattle.method.specs.Rules.{Filled, Phase, unstarted, started, stopped, has}
-use Rattle.method.specs.Steps.{State, sents, overfull, run}
 use Rattle.method.specs.Invariant.{Has}
-use Rattle.method.proofs.Numbers.{last-or-before}
 use Rattle.method.proofs.Table.{has-true, has-false}
 use Rattle.network.specs.Refusal.{joined}
 use Rattle.refusal.proofs.Tests.{both}
@@ -23,9 +19,6 @@ use Rattle.zaqfinell.specs.Tests.{Tests}
 or-cases : (t u : Bool) → t || u ≡ true → (t ≡ true) ⊎ (u ≡ true)
 or-cases true u e = inl refl
 or-cases false u e = inr e
-
-or-left : (t u : Bool) → t ≡ true → t || u ≡ true
-or-left t u e = rw e
 
 or-right : (t u : Bool) → u ≡ true → t || u ≡ true
 or-right true u e = refl
@@ -50,29 +43,6 @@ arc-joins [] i j l p = absurd p
 arc-joins (a ∷ ar) i j l (inl p) = rw (eq-eqb (a .tail) i (p .0), eq-eqb (a .head) j (p .1))
 arc-joins (a ∷ ar) i j l (inr p) = or-right (eqb (a .tail) i && eqb (a .head) j) (joined ar i j) (arc-joins ar i j l p)
 
--- one of the nodes 1 to k has sent more than 257 messages
-abbrev Overfull : State → ℕ → Type 0
-Overfull st k = (i : ℕ) × IsNode k i × (257 < length (sents st i))
-
-full-there : (st : State) (k : ℕ) → overfull st k ≡ true → Overfull st k
-full-there st zero e = absurd (true≢false (sym e))
-full-there st (suc k) e = go (or-cases (ltb 257 (length (sents st (suc k)))) (overfull st k) e) (full-there st k)
-  where
-    go : (ltb 257 (length (sents st (suc k))) ≡ true) ⊎ (overfull st k ≡ true) → (overfull st k ≡ true → Overfull st k)
-        → Overfull st (suc k)
-    go (inl f) rec = (suc k, (omega arith, omega arith), ltb-true 257 (length (sents st (suc k))) f)
-    go (inr f) rec = let p = rec f in let at = p .1 in (p .0, (omega arith, omega arith), p .2)
-
-full-tells : (st : State) (k i : ℕ) → IsNode k i → 257 < length (sents st i) → overfull st k ≡ true
-full-tells st zero i at many = absurd (omega arith)
-full-tells st (suc k) i at many = go (last-or-before k i at) (λ there. full-tells st k i there many)
-  where
-    go : (i ≡ suc k) ⊎ IsNode k i → (IsNode k i → overfull st k ≡ true) → overfull st (suc k) ≡ true
-    go (inl e) rec =
-        or-left (ltb 257 (length (sents st (suc k)))) (overfull st k)
-        (lt-ltb 257 (length (sents st (suc k))) (subst (λ (j : ℕ). 257 < length (sents st j)) e many))
-    go (inr there) rec = or-right (ltb 257 (length (sents st (suc k)))) (overfull st k) (rec there)
-
 unstarted-is : (ph : Phase) → isUnstarted ph ≡ true → ph ≡ unstarted
 unstarted-is unstarted e = refl
 unstarted-is started e = absurd (true≢false (sym e))
@@ -90,7 +60,6 @@ pub tests : Tests
 tests =
     record {
       repeated-arc = λ earlier i j. (arc-there earlier i j, λ p. arc-joins earlier i j (p .0) (p .1));
-      no-room = λ net bs. (full-there (run net bs) (net .n), λ p. full-tells (run net bs) (net .n) (p .0) (p .1) (p .2));
       not-started = λ ph. (unstarted-is ph, λ e. rw e);
       repeated-target = λ y es. (has-true y es, target-tells y es);
     }

@@ -3,11 +3,9 @@ use mathlib.Core.Path.{_≡_}
 use mathlib.Core.Logic.{_↔_}
 use mathlib.Core.Bool.{true}
 use mathlib.Core.List.{List}
-use Prim.Native.Nat.{ℕ, _<_}
-use lib.ListN.{length}
-use Rattle.method.specs.Network.{Arc, Net, IsNode, IsArc}
+use Prim.Native.Nat.{ℕ}
+use Rattle.method.specs.Network.{Arc, IsArc}
 use Rattle.method.specs.Rules.{Filled, Phase, unstarted, has}
-use Rattle.method.specs.Steps.{Step, sents, run, refused10}
 use Rattle.method.specs.Invariant.{Has}
 use Rattle.network.specs.Refusal.{joined}
 use Rattle.call.specs.Calls.{isUnstarted}
@@ -15,9 +13,6 @@ use Rattle.call.specs.Calls.{isUnstarted}
 pub record Tests : Type 0 where
   -- 8: "same tail and head as an earlier arc"
   pub repeated-arc : (earlier : List Arc) (i j : ℕ) → (joined earlier i j ≡ true) ↔ ((l : ℕ) × IsArc earlier i j l)
-  -- 10: "no room in a sent list": one of the nodes 1 to n has sent more than 257 messages
-  pub no-room : (net : Net) (bs : List Step)
-      → (refused10 net bs ≡ true) ↔ ((i : ℕ) × IsNode (net .n) i × (257 < length (sents (run net bs) i)))
   -- 12: "file wanted of a node not started"
   pub not-started : (ph : Phase) → (isUnstarted ph ≡ true) ↔ (ph ≡ unstarted)
   -- 17: "target [..] repeated"
