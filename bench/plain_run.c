@@ -3,7 +3,7 @@
 #include "plain.h"
 #include <string.h>
 
-enum { NO_SUM = 0x7FF, NOBODY = 16, LABELS = 16, END = 0xFFFF, SENT_ROOM = 257 };
+enum { NO_SUM = 0x7FF, NOBODY = 16, LABELS = 16, END = 0xFFFF, SENT_ROOM = 243 };
 
 struct network {
     unsigned n, lmax, arcs;
@@ -213,7 +213,7 @@ uint32_t PLAIN(run)(
     uint32_t refusal = read_network(bytes, net_len, &net);
     if (refusal)
         return refusal;
-    if (len < 2 * (size_t)net.n * net.n) /* the run cannot be refused, so its room can be looked at before it */
+    if (len < 2 * (size_t)net.n * net.n)
         return 13;
     run(&s, &net, steps, steps_len, counts, entries);
     return 0;

@@ -18,7 +18,7 @@
 #include <stddef.h> /* NULL */
 #include <stdint.h>
 
-#define ZAQ_VERSION "0.1.0"
+#define ZAQ_VERSION "0.2.0"
 
 #ifdef __cplusplus
 extern "C" {
@@ -55,9 +55,9 @@ extern "C" {
 /* ---- Refusals ----
  *
  * Every answer has the refusal in its low byte, ZAQ_ACCEPTED for none, and its values above it; on a refusal the values are all 0. Where
- * several refusals apply, a call gives the first in the order that its comment lists. This list has the number, the name and the words of
- * each; the names are constants, and zaq_words gives the words. ZAQ_SENT_LIST_FULL would come with the run, after 11 and before 12 and 13;
- * it is proved never to be given.
+ * several refusals apply, a call gives the first in the order that its comment lists, and no call gives one that its comment does not
+ * list. None is for the steps: an accepted network runs every list of steps. This list has the number, the name and the words of each; the
+ * names are constants, and zaq_words gives the words.
  */
 #define ZAQ_REFUSALS(X)                                                                                                                    \
     X(1, ZAQ_WRONG_NETWORK_LENGTH, "network bytes under 3, or not the number of bytes that its arcs take")                                 \
@@ -69,7 +69,6 @@ extern "C" {
     X(7, ZAQ_WRONG_ARC_LENGTH, "an arc of length 0 or over LMAX")                                                                          \
     X(8, ZAQ_REPEATED_ARC, "two arcs with the same tail and head")                                                                         \
     X(9, ZAQ_WRONG_NETWORK_PADDING, "a padding bit of the network not 0")                                                                  \
-    X(10, ZAQ_SENT_LIST_FULL, "no room in a sent list")                                                                                    \
     X(11, ZAQ_NO_SUCH_NODE, "node or target outside 1 to n")                                                                               \
     X(12, ZAQ_NOT_STARTED, "file wanted of a node not started")                                                                            \
     X(13, ZAQ_ROOM_TOO_SHORT, "what is to be written is longer than the room")                                                             \

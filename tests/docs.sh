@@ -28,7 +28,7 @@ done
 
 # the refusals have one list, the header's; docs/FORMATS.md shows it
 list=$(sed -nE 's/^ *X\(([0-9]+), (ZAQ_[A-Z_]+), "(.*)"\).*/| \1 | `\2` | \3 |/p' "$header")
-verdict 'the header lists 19 refusals' test "$(wc -l <<< "$list")" = 19
+verdict 'the header lists 18 refusals' test "$(wc -l <<< "$list")" = 18
 verdict "the refusals of docs/FORMATS.md are not the header's" \
     test "$(grep -E '^\| [0-9]+ \| `ZAQ_' docs/FORMATS.md)" = "$list"
 

@@ -44,7 +44,7 @@ bash tools/sample_house.sh > "$input"
 same 'the sample house'
 verdict 'every device of the sample house has stopped' grep -q ' stopped 6$' <("$program" < "$input")
 
-# every refusal of a network's bytes, with document 01's network Q and the step bytes 00 01 10 after it; 10 is proved never to be given
+# every refusal of a network's bytes, with document 01's network Q and the step bytes 00 01 10 after it
 refused 1 ''
 refused 1 12
 refused 1 1240

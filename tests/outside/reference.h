@@ -5,7 +5,8 @@
 #include <stddef.h>
 #include <stdint.h>
 
-enum { MOST_NODES = 16, MOST_ARCS = 240, MOST_SENT = 257 };
+/* SENT_ROOM is more than any node sends, by a third and more: a test counts what was sent. */
+enum { MOST_NODES = 16, MOST_ARCS = 240, SENT_ROOM = 400 };
 enum { UNKNOWN = -1, UNREACHABLE = -2 };
 
 struct ref_arc {
@@ -41,7 +42,7 @@ struct ref_record {
 struct ref_node {
     int started, stopped, waits_for; /* the arc it waits for */
     unsigned wait_sum, lp, last_sent, sent_count, filled_count;
-    struct ref_msg sent[MOST_SENT + 1];
+    struct ref_msg sent[SENT_ROOM];
     struct ref_record filled[MOST_NODES]; /* in the order of filling, its own first */
 };
 
@@ -55,7 +56,6 @@ struct ref_run {
     struct ref_node node[MOST_NODES + 1];
     struct ref_arc_state arc[MOST_ARCS];
     size_t taken, idle, unknown;
-    int refused; /* 10 once a 258th message was to be sent */
 };
 
 void ref_start(struct ref_run *run, const struct ref_net *net);

@@ -13,11 +13,8 @@ void ref_start(struct ref_run *run, const struct ref_net *net)
 static void send(struct ref_run *run, unsigned i, struct ref_msg m)
 {
     struct ref_node *nd = &run->node[i];
-    if (nd->sent_count == MOST_SENT) {
-        run->refused = 10;
-        return;
-    }
-    nd->sent[nd->sent_count++] = m;
+    if (nd->sent_count < SENT_ROOM)
+        nd->sent[nd->sent_count++] = m;
 }
 
 static void send_length(struct ref_run *run, unsigned i, unsigned x)

@@ -66,6 +66,20 @@ static size_t simulate(size_t count)
     return ref_network_bytes(&net, bytes);
 }
 
+/* Document 02, K6: what a node of this house sends at most, and what the node that has sent most has sent. */
+static unsigned sent_at_most(void)
+{
+    return (net.n - 1) * net.lmax + net.n + 2;
+}
+
+static unsigned most_sent(void)
+{
+    unsigned most = 0;
+    for (unsigned i = 1; i <= net.n; i++)
+        most = run.node[i].sent_count > most ? run.node[i].sent_count : most;
+    return most;
+}
+
 /* Each entry handed over that is not unknown is the truth over all chains; unreachable only where there is none. */
 static void entries_are_true(size_t count)
 {
@@ -92,7 +106,7 @@ static void one_run(unsigned kind, size_t count)
     random_steps(&net, kind, steps, count);
     same_run(simulate(count), count, "a run is not refused");
     entries_are_true(count);
-    check(run.refused == 0, "no sent list needs a 258th message");
+    check(most_sent() <= sent_at_most(), "no node sends more than (n - 1) * LMAX + n + 2 messages");
     sizes[net.n][net.lmax]++;
     arc_counts[net.arcs]++;
 }
@@ -139,6 +153,32 @@ static void to_the_end(void)
     check(got.counts[3] == net.n && filled, "once all have stopped nothing is unknown");
 }
 
+/* Nodes 1 and 2 hear each other at length 1, and from 2 on each hears the next at LMAX: node 1 sends as much as a node can. */
+static void lay_line(unsigned n, unsigned lmax)
+{
+    net = (struct ref_net){.n = n, .lmax = lmax, .arcs = n, .arc = {{1, 2, 1}, {2, 1, 1}}};
+    for (unsigned k = 2; k < n; k++)
+        net.arc[k] = (struct ref_arc){k, k + 1, lmax};
+}
+
+static void longest_lists(void)
+{
+    for (unsigned n = 2; n <= MOST_NODES; n++)
+        for (unsigned lmax = 1; lmax <= 15; lmax++) {
+            lay_line(n, lmax);
+            ref_shortest(&net, &truth);
+            size_t count = 0, len = simulate(0);
+            while (ref_stopped(&run) < net.n && count < LONG_LIST) {
+                steps[count] = (uint8_t)(count < net.n ? count : 16 + count % net.arcs);
+                ref_step(&run, steps[count++]);
+            }
+            same_run(len, count, "the run with the longest sent list is not refused");
+            entries_are_true(count);
+            check(run.node[1].sent_count == sent_at_most() && most_sent() == sent_at_most(), "node 1 of a line sends as much as a node can");
+        }
+    check(sent_at_most() == 243, "the largest house was run");
+}
+
 /* Each count goes beyond 16 bits where the list is long enough. */
 static void long_lists(void)
 {
@@ -181,6 +221,7 @@ void test_runs(void)
         every_length(round % STEP_KINDS);
     for (unsigned round = 0; round < rounds(400); round++)
         to_the_end();
+    longest_lists();
     long_lists();
     refused_networks();
 }

@@ -1,4 +1,4 @@
-/* The header's list of refusals: every number from 1 to 19 once and in order, each with a name that is that number and words of its own. */
+/* The header's list of refusals: 1 to 9 and 11 to 19, once and in order, each with a name that is that number and words of its own. */
 #include "test.h"
 #include <string.h>
 
@@ -21,14 +21,18 @@ static int is_alone(unsigned k)
 
 void test_words(void)
 {
-    check(LISTED == 19, "19 refusals are listed");
-    for (unsigned k = 0; k < LISTED; k++) {
-        about_number("refusal", k + 1);
-        check(list[k].number == k + 1 && list[k].constant == k + 1, "numbers and constants run from 1 to 19");
-        check(strncmp(list[k].name, "ZAQ_", 4) == 0 && strlen(list[k].words) > 10 && is_alone(k), "each has a name and words of its own");
-        check(strcmp(zaq_words(k + 1), list[k].words) == 0, "zaq_words gives the list's words");
+    unsigned k = 0;
+    for (uint32_t number = 1; number < 300; number++) {
+        about_number("refusal", number);
+        if (number > 9 && (number < 11 || number > 19)) {
+            check(strcmp(zaq_words(number), zaq_words(0xFFFFFFFF)) == 0, "other numbers have no words of their own");
+            continue;
+        }
+        check(k < LISTED && list[k].number == number && list[k].constant == number, "numbers and constants are 1 to 9 and 11 to 19");
+        check(strncmp(list[k].name, "ZAQ_", 4) == 0 && strlen(list[k].words) > 9 && is_alone(k), "each has a name and words of its own");
+        check(strcmp(zaq_words(number), list[k].words) == 0, "zaq_words gives the list's words");
+        k++;
     }
+    check(k == LISTED, "no other refusal is listed");
     check(ZAQ_ACCEPTED == 0 && strcmp(zaq_words(0), "no refusal") == 0, "0 is no refusal");
-    for (uint32_t other = LISTED + 1; other < 300; other++)
-        check(strcmp(zaq_words(other), zaq_words(0xFFFFFFFF)) == 0, "other numbers have no words of their own");
 }
