@@ -3,7 +3,7 @@
 #include "plain.h"
 #include <string.h>
 
-enum { NO_SUM = 0x7FF, NOBODY = 16, LABELS = 16, END = 0xFFFF, SENT_ROOM = 243 };
+enum { NO_SUM = 0x7FF, NOBODY = 16, LABELS = 16, END = 0xFFFF, SENT_ROOM = 243 /* no node sends more */ };
 
 struct network {
     unsigned n, lmax, arcs;

@@ -56,8 +56,8 @@ extern "C" {
  *
  * Every answer has the refusal in its low byte, ZAQ_ACCEPTED for none, and its values above it; on a refusal the values are all 0. Where
  * several refusals apply, a call gives the first in the order that its comment lists, and no call gives one that its comment does not
- * list. None is for the steps: an accepted network runs every list of steps. This list has the number, the name and the words of each; the
- * names are constants, and zaq_words gives the words.
+ * list. A list of steps is never refused: an accepted network runs any list (12 says that the list does not start the node whose file is
+ * wanted). This list has the number, the name and the words of each refusal; the names are constants, and zaq_words gives the words.
  */
 #define ZAQ_REFUSALS(X)                                                                                                                    \
     X(1, ZAQ_WRONG_NETWORK_LENGTH, "network bytes under 3, or not the number of bytes that its arcs take")                                 \

@@ -5,7 +5,7 @@
 #include <stddef.h>
 #include <stdint.h>
 
-/* SENT_ROOM is more than any node sends, by a third and more: a test counts what was sent. */
+/* SENT_ROOM is wider than the 243 messages that a node sends at most, so that a longer list shows. */
 enum { MOST_NODES = 16, MOST_ARCS = 240, SENT_ROOM = 400 };
 enum { UNKNOWN = -1, UNREACHABLE = -2 };
 

@@ -13,8 +13,9 @@ void ref_start(struct ref_run *run, const struct ref_net *net)
 static void send(struct ref_run *run, unsigned i, struct ref_msg m)
 {
     struct ref_node *nd = &run->node[i];
-    if (nd->sent_count < SENT_ROOM)
-        nd->sent[nd->sent_count++] = m;
+    if (nd->sent_count == SENT_ROOM)
+        __builtin_trap(); /* nothing after this could be believed; the board has no exit */
+    nd->sent[nd->sent_count++] = m;
 }
 
 static void send_length(struct ref_run *run, unsigned i, unsigned x)

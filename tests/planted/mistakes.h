@@ -32,6 +32,7 @@
     X(never_stops_far, "a node stops only when every sum is infinite")                                                                     \
     X(silent_wait, "no length is sent before waiting")                                                                                     \
     X(no_length_before_label, "no length is sent before a label")                                                                          \
+    X(sent_list_of_242, "a sent list has room for 242 messages")                                                                           \
     X(equal_length_sent_again, "a length equal to the last one is sent again")                                                             \
     X(cleared_at_start, "a start loses the messages that came earlier")                                                                    \
     X(lp_not_set, "LP stays 0")                                                                                                            \

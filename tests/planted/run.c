@@ -4,7 +4,7 @@
 
 static void send(struct node *node, unsigned message)
 {
-    if (node->sent < MESSAGES)
+    if (node->sent < (WRONG(sent_list_of_242) ? 242 : MESSAGES))
         node->message[node->sent++] = message;
 }
 

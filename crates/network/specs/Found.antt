@@ -5,7 +5,7 @@ use Rattle.network.specs.Checked.{Checked}
 use Rattle.network.specs.Layout.{netOf, Laid}
 use Rattle.network.specs.declared.Found.{Found}
 
--- a network that is not refused is laid out
+-- an accepted network is laid out
 abbrev pub Consistent : Found → Type 0
 Consistent found = found .refused ≡ 0 → Laid (found .laid)
 

@@ -1,5 +1,5 @@
--- An accepted network is refused nothing where the nodes asked for are nodes of the house and a room has the size that the header calls
--- always enough; and so is a room for all entries of a file.
+-- No call with an accepted network is refused where the nodes asked for are nodes of the house, a node whose file is wanted has started,
+-- and a room has the size that the header calls always enough. A room of that size is never too short for the entries of a file.
 use mathlib.Core.Path.{_≡_, refl, sym, ap, _∙_}
 use mathlib.Core.Logic.{inl, inr, _≢_}
 use mathlib.Core.Bool.{false}
@@ -43,45 +43,45 @@ has-started unstarted up = absurd (up refl)
 has-started started up = refl
 has-started stopped up = refl
 
-module _ (net : Checked) (taken : IsAccepted net) (fit : Accepted (net .meant)) where
+module _ (net : Checked) (accepted : IsAccepted net) (fit : Accepted (net .meant)) where
   -- no row after the network's holds
   clear : (rows : List Row) → refused rows ≡ 0 → net .refused else refused rows ≡ 0
-  clear rows e = else-zero (net .refused) (refused rows) taken ∙ e
+  clear rows e = else-zero (net .refused) (refused rows) accepted ∙ e
 
   inside : (i : ℕ) → IsNode (nodesOf net) i → outside (nodesOf net) i ≡ false
   inside i at = not-outside (nodesOf net) i (at .0) (at .1)
 
   -- a file has 27 bytes at most
-  pub write-taken : (bs : List ℕ) (i wide : ℕ) → Started (net .meant) (steps bs) i → 27 ≤ wide → writeRefusal net bs i wide ≡ 0
-  write-taken bs i wide up le =
+  pub write-clear : (bs : List ℕ) (i wide : ℕ) → Started (net .meant) (steps bs) i → 27 ≤ wide → writeRefusal net bs i wide ≡ 0
+  write-clear bs i wide up le =
       let few = at-most-27 (net .meant) fit (steps bs) i up in
       let rows = writeRows (net .meant) (steps bs) i wide in
       clear rows (number-clear rows (inside i (up .0) next has-started (phase (net .meant) (steps bs) i) (up .1) next
       le-ltb wide (length (fileAfter net bs i)) (omega arith) next tt))
 
   -- 16 nodes have 2 * 16 * 16 numbers
-  pub run-taken : (wide : ℕ) → 512 ≤ wide → runRefusal net wide ≡ 0
-  run-taken wide le =
+  pub run-clear : (wide : ℕ) → 512 ≤ wide → runRefusal net wide ≡ 0
+  run-clear wide le =
       let few = fit .sizes .nodes .1 in
       let all : nodesOf net * nodesOf net ≤ 16 * 16 = mul-le-mul few few in
       clear (runRows (net .meant) wide) (enough wide (2 * (nodesOf net * nodesOf net)) (omega arith))
 
-  pub entry-taken : (i y : ℕ) → IsNode (nodesOf net) i → IsNode (nodesOf net) y → entryRefusal net i y ≡ 0
-  entry-taken i y at to =
+  pub entry-clear : (i y : ℕ) → IsNode (nodesOf net) i → IsNode (nodesOf net) y → entryRefusal net i y ≡ 0
+  entry-clear i y at to =
       let rows = entryRows (net .meant) i y in
       clear rows (number-clear rows (inside i at next inside y to next tt))
 
   -- a way passes fewer nodes than there are
-  pub route-taken : (bs : List ℕ) (i y wide : ℕ) → IsNode (nodesOf net) i → IsNode (nodesOf net) y → 15 ≤ wide
+  pub route-clear : (bs : List ℕ) (i y wide : ℕ) → IsNode (nodesOf net) i → IsNode (nodesOf net) y → 15 ≤ wide
       → routeRefusal net bs i y wide ≡ 0
-  route-taken bs i y wide at to le =
+  route-clear bs i y wide at to le =
       route-else net bs i y wide
-      ∙ else-zero (entryRefusal net i y) _ (entry-taken i y at to)
+      ∙ else-zero (entryRefusal net i y) _ (entry-clear i y at to)
       ∙ enough wide (length (nodesPassed net bs i y)) (omega (arith, way-few (net .meant) fit (steps bs) i y at))
 
   -- 240 arcs have 360 bytes, after 3
-  pub pack-taken : (wide : ℕ) → 363 ≤ wide → packRefusal net wide ≡ 0
-  pack-taken wide le = clear (packRows (net .meant) wide) (enough wide (size (length (net .meant .arcs))) (omega (arith, fit .sizes .arcs)))
+  pub pack-clear : (wide : ℕ) → 363 ≤ wide → packRefusal net wide ≡ 0
+  pack-clear wide le = clear (packRows (net .meant) wide) (enough wide (size (length (net .meant .arcs))) (omega (arith, fit .sizes .arcs)))
 
 -- 13 is none of a file's own
 file-not-13 : (N : ℕ) → NoneOr ofFile N → N ≢ 13

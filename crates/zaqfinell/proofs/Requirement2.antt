@@ -39,7 +39,7 @@ use Rattle.call.specs.Calls.{nodesPassed, routeRefusal, routeRoom, fileAfter, w
 use Rattle.call.specs.Calls.{packRefusal, packRoom}
 use Rattle.zaqfinell.specs.Requirement2.{IsSo, Followed, RightTables, Requirement2}
 use Rattle.zaqfinell.proofs.Ending.{at-end, all-or-one, ends}
-use Rattle.zaqfinell.proofs.Enough.{write-taken, run-taken, entry-taken, route-taken, pack-taken, table-fits}
+use Rattle.zaqfinell.proofs.Enough.{write-clear, run-clear, entry-clear, route-clear, pack-clear, table-fits}
 
 -- where as many have stopped as there are, each has
 all-stopped : (st : State) (k : ℕ) → stoppedTo st k ≡ k → (j : ℕ) → IsNode k j → isStopped (st j) ≡ true
@@ -77,7 +77,7 @@ hop-known net bs i y d h ne is (hop g l r e arc sum lt onward) =
     subst (λ (x : ℕ). Known net bs x y) same (leads-known net bs y g r onward)
 
 -- of an accepted network, which is one of the method
-module _ (net : Checked) (taken : IsAccepted net) (fit : Accepted (net .meant)) where
+module _ (net : Checked) (accepted : IsAccepted net) (fit : Accepted (net .meant)) where
   -- what an entry says is so
   right : (bs : List ℕ) (i y : ℕ) → IsSo (net .meant) i y (entryAfter net bs i y)
   right bs i y = go (entryAfter net bs i y) refl
@@ -157,7 +157,7 @@ module _ (net : Checked) (taken : IsAccepted net) (fit : Accepted (net .meant)) 
       → readAnswer (entryRead one (fileAfter net bs i) y) ≡ entryAnswer net bs i y
   same bs i up y at =
       ap readAnswer (file-laws (net .meant) fit .a-same-entries (steps bs) i up y at)
-      ∙ sym (else-zero (entryRefusal net i y) _ (entry-taken net taken fit i y (up .0) at))
+      ∙ sym (else-zero (entryRefusal net i y) _ (entry-clear net accepted fit i y (up .0) at))
 
   pub right-tables : RightTables net
   right-tables =
@@ -167,16 +167,15 @@ module _ (net : Checked) (taken : IsAccepted net) (fit : Accepted (net .meant)) 
         filled = filled;
         progress = progress;
         ends = ends net fit;
-        total = λ bs. method-laws (net .meant) .g-total (steps bs) ∙ length-map bs byteStep;
         way = way;
         route-room = route-room;
         written = file-room;
         same = same;
-        write-taken = write-taken net taken fit;
-        run-taken = run-taken net taken fit;
-        entry-taken = entry-taken net taken fit;
-        route-taken = route-taken net taken fit;
-        pack-taken = pack-taken net taken fit;
+        write-clear = write-clear net accepted fit;
+        run-clear = run-clear net accepted fit;
+        entry-clear = entry-clear net accepted fit;
+        route-clear = route-clear net accepted fit;
+        pack-clear = pack-clear net accepted fit;
       }
 
 -- the bytes of an arc list, in the room
@@ -198,8 +197,9 @@ both-entries n lmax ar room e =
 pub requirement2 : Requirement2
 requirement2 =
     record {
-      bytes = λ s taken. right-tables (fromBytes s) taken (checks .bytes-accepted s taken);
-      list = λ n lmax ar taken. right-tables (fromList n lmax ar) taken (checks .list-accepted n lmax ar taken);
+      bytes = λ s accepted. right-tables (fromBytes s) accepted (checks .bytes-accepted s accepted);
+      list = λ n lmax ar accepted. right-tables (fromList n lmax ar) accepted (checks .list-accepted n lmax ar accepted);
       both-entries = both-entries;
+      total = λ net bs. method-laws (net .meant) .g-total (steps bs) ∙ length-map bs byteStep;
       table-fits = table-fits;
     }

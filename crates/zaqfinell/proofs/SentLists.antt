@@ -1,9 +1,10 @@
 -- K6: no sent list of an accepted network gets longer than law l says, and a small house reaches it.
 use mathlib.Core.Path.{refl}
-use Prim.Native.Nat.{_-_, _*_, _≤_}
+use mathlib.Core.List.{List}
+use Prim.Native.Nat.{ℕ, _-_, _*_, _≤_}
 use native.Mathlib.Nat.{mul-le-mul}
 use native.Mathlib.Omega.{arith}
-use Rattle.method.specs.Network.{Accepted}
+use Rattle.method.specs.Network.{IsNode, Accepted}
 use Rattle.method.specs.Steps.{steps}
 use Rattle.method.proofs.Proved.{laws as method-laws}
 use Rattle.method.proofs.Reached.{line-sent}
@@ -12,16 +13,16 @@ use Rattle.network.specs.ArcList.{headerListRows, listRows}
 use Rattle.network.specs.Checked.{Checked, IsAccepted, fromBytes, fromList}
 use Rattle.network.proofs.Laws.{checks}
 use Rattle.call.specs.Calls.{nodesOf}
-use Rattle.zaqfinell.specs.SentLists.{FewSent, line, SentLists}
+use Rattle.zaqfinell.specs.SentLists.{sentBy, sentBound, FewSent, line, SentLists}
 
 fit-by : (net : Checked) → Accepted (net .meant) → FewSent net
 fit-by net fit =
     let fewer : nodesOf net - 1 ≤ 15 = omega (arith, fit .sizes .nodes .1) in
     let most : (nodesOf net - 1) * net .meant .lmax ≤ 15 * 15 = mul-le-mul fewer (fit .sizes .lengths .1) in
-    record {
-      sent = λ bs i at. method-laws (net .meant) .l-sent (fit .valid) (steps bs) i at;
-      at-most-243 = omega (arith, fit .sizes .nodes .1);
-    }
+    record { sent = sent; at-most-243 = λ bs i at. omega (arith, sent bs i at, fit .sizes .nodes .1) }
+  where
+    sent : (bs : List ℕ) (i : ℕ) → IsNode (nodesOf net) i → sentBy net bs i ≤ sentBound net
+    sent bs i at = method-laws (net .meant) .l-sent (fit .valid) (steps bs) i at
 
 line-accepted : IsAccepted line
 unfolding listRows headerListRows arcsRows loneRows joined
@@ -30,8 +31,8 @@ line-accepted = refl
 pub sent-lists : SentLists
 sent-lists =
     record {
-      bytes = λ s taken. fit-by (fromBytes s) (checks .bytes-accepted s taken);
-      list = λ n lmax ar taken. fit-by (fromList n lmax ar) (checks .list-accepted n lmax ar taken);
+      bytes = λ s accepted. fit-by (fromBytes s) (checks .bytes-accepted s accepted);
+      list = λ n lmax ar accepted. fit-by (fromList n lmax ar) (checks .list-accepted n lmax ar accepted);
       line-accepted = line-accepted;
       reached = line-sent;
     }

@@ -1,4 +1,4 @@
--- Which refusals each call can give, and so which ones a C program has to be ready for. When each is given is requirement 1.
+-- No call gives a refusal other than these, so a C program need not be ready for any other. When each is given is requirement 1.
 use mathlib.Core.List.{List, [], _∷_, _++_}
 use Prim.Native.Nat.{ℕ}
 use Rattle.method.specs.Network.{Arc}
@@ -9,7 +9,7 @@ use Rattle.table.specs.Reader.{reading, entryRead}
 use Rattle.call.specs.Files.{readRefusal, entriesOutcome, outcomeRefusal}
 use Rattle.call.specs.Calls.{writeRefusal, runRefusal, entryRefusal, routeRefusal, packRefusal}
 
--- the refusals of a network's bytes, of an arc list, and of a table file
+-- those of a network's bytes, of an arc list, and of a table file
 abbrev pub ofBytes : List ℕ
 ofBytes = 1 ∷ 2 ∷ 3 ∷ 4 ∷ 5 ∷ 6 ∷ 7 ∷ 8 ∷ 9 ∷ []
 
@@ -23,13 +23,19 @@ ofFile = 14 ∷ 15 ∷ 16 ∷ 17 ∷ 18 ∷ []
 abbrev pub NoneOr : List ℕ → ℕ → Type 0
 NoneOr numbers N = Among N (0 ∷ numbers)
 
--- of a network whose own refusals are `own`
+-- of a network whose own refusals are among `own`: after them only 11, 12 and 13
 pub record NumbersOf (own : List ℕ) (net : Checked) : Type 0 where
+  -- zaq_check_network, zaq_check_arcs
   pub check : NoneOr own (net .refused)
+  -- zaq_write_table, zaq_write_table_arcs
   pub write : (bs : List ℕ) (i wide : ℕ) → NoneOr (own ++ (11 ∷ 12 ∷ 13 ∷ [])) (writeRefusal net bs i wide)
+  -- zaq_run, zaq_run_arcs
   pub run : (wide : ℕ) → NoneOr (own ++ (13 ∷ [])) (runRefusal net wide)
+  -- zaq_entry, zaq_entry_arcs
   pub entry : (i y : ℕ) → NoneOr (own ++ (11 ∷ [])) (entryRefusal net i y)
+  -- zaq_route, zaq_route_arcs
   pub route : (bs : List ℕ) (i y wide : ℕ) → NoneOr (own ++ (11 ∷ 13 ∷ [])) (routeRefusal net bs i y wide)
+  -- zaq_pack_network
   pub pack : (wide : ℕ) → NoneOr (own ++ (13 ∷ [])) (packRefusal net wide)
 
 pub record Numbers : Type 0 where

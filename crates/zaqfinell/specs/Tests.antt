@@ -1,4 +1,4 @@
--- What the tests of 01's rows mean where they go through a list or a run. The others say what they mean.
+-- What the tests of 01's rows mean where they go through a list. The others say what they mean.
 use mathlib.Core.Path.{_≡_}
 use mathlib.Core.Logic.{_↔_}
 use mathlib.Core.Bool.{true}
