@@ -12,13 +12,10 @@ mkdir -p "$out"
 compile="$CC -std=c99 -Wall -Wextra -Wpedantic -Werror"
 
 # the competitor at both levels, the houses, and the outside tests' simulation, which says what is right
-# the functions of its run begin at lines of code, so that a change of one does not move the branches of the others
 parts=("$out/houses.o" "$out/reference.o" "$out/reference_run.o" "$out/in_header.o")
 for source in plain_run plain_list plain_read plain_shortest; do
-    lines=()
-    if [ "$source" = plain_run ]; then lines=(-falign-functions=64); fi
     for level in O2 O3; do
-        $compile "-$level" "${lines[@]}" -DLEVEL="$level" -c "bench/$source.c" -o "$out/${source}_$level.o"
+        $compile "-$level" -DLEVEL="$level" -c "bench/$source.c" -o "$out/${source}_$level.o"
         parts+=("$out/${source}_$level.o")
     done
 done

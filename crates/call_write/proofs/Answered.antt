@@ -9,7 +9,7 @@ use lib.Dec.{ltb, eqb}
 use lib.ListN.{length}
 use borrow.Author.Tests.{eqb-true}
 use Rattle.method.specs.Network.{Net, IsNode}
-use Rattle.method.specs.Rules.{Phase, unstarted, started, stopped}
+use Rattle.method.specs.Rules.{unstarted, started, stopped}
 use Rattle.method.specs.Steps.{State, Counts, steps}
 use Rattle.method.specs.Entries.{phase}
 use Rattle.method.specs.Room.{keptIf, begins}
@@ -28,8 +28,9 @@ use Rattle.table.specs.declared.Outcome.the-variants.{Written, Refused}
 use Rattle.table.proofs.Proved.{at-most-27}
 use Rattle.call.specs.Answers.{values}
 use Rattle.call.specs.Files.{outcome, roomAfter, outcomeAnswer}
-use Rattle.call.specs.Calls.{nodesOf, isUnstarted, fileAfter, lateRows, writeRows, writeRefusal}
+use Rattle.call.specs.Calls.{nodesOf, fileAfter, lateRows, writeRows, writeRefusal}
 use Rattle.call.specs.Promises.{WritePromise}
+use Rattle.call.proofs.Asked.{not-unstarted}
 use Rattle.call.proofs.Found.{refused-first, is-refused, others-tell, of-meant}
 use Rattle.call.specs.Files.{OneAnswer}
 use Rattle.call_write.specs.Filing.{heldFile}
@@ -46,11 +47,6 @@ started-is p ne = go (eqb p 0) refl (eqb p 1)
     go true ea b e = ne (eqb-true p 0 ea)
     go false ea true e = let z : _≡_ {A = ℕ} 0 1 = cc in omega arith
     go false ea false e = let z : _≡_ {A = ℕ} 0 1 = cc in omega arith
-
-not-unstarted : (ph : Phase) → ph ≢ unstarted → isUnstarted ph ≡ false
-not-unstarted unstarted ne = absurd (ne refl)
-not-unstarted started ne = refl
-not-unstarted stopped ne = refl
 
 -- an outcome fits one answer where what is to be written does
 outcome-fits : (what room : List ℕ) → length what < 256 → OneAnswer (outcome what room)

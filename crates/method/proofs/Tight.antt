@@ -5,10 +5,10 @@ use mathlib.Core.Logic.{inl, inr, _≢_}
 use mathlib.Core.Option.{Option, none, some}
 use mathlib.Core.List.{List, [], _∷_, _++_}
 use Prim.Native.Nat.{ℕ, suc, _+_, _-_, _*_, _≤_, _<_, zero-le}
-use native.Mathlib.Nat.{mul-le-mul-right}
+use native.Mathlib.Nat.{mul-le-mul, mul-le-mul-right}
 use native.Mathlib.Omega.{arith}
 use lib.ListN.{length}
-use Rattle.method.specs.Network.{Net, IsNode, IsArc, Valid}
+use Rattle.method.specs.Network.{Net, IsNode, IsArc, Sizes, Valid}
 use Rattle.method.specs.Distance.{here, via}
 use Rattle.method.specs.Message.{Msg, label, len, end, finite, lastLen, sendLen}
 use Rattle.method.specs.Rules.{Filled, Node, Choice, rule₁}
@@ -130,6 +130,13 @@ module _ (net : Net) (va : Valid net) where
         sent-within i (nodes i) (lawful .keeps (Spread net) spread i) at (lawful .view i) (lawful .ok i),
         ends-le (nodes i .phase),
       )
+
+-- in the largest house
+pub at-most-243 : (net : Net) → Sizes net → (net .n - 1) * net .lmax + net .n + 2 ≤ 243
+at-most-243 net small =
+    let fewer : net .n - 1 ≤ 15 = omega (arith, small .nodes .1) in
+    let product : (net .n - 1) * net .lmax ≤ 15 * 15 = mul-le-mul fewer (small .lengths .1) in
+    omega (arith, small .nodes .1)
 
 -- A list that grows to one with room for an end had that room before: so what a node will have sent when its work is done bounds what it
 -- has sent on the way.

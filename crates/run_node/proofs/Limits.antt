@@ -14,7 +14,7 @@ use Rattle.method.proofs.Sent.{item-lastLen}
 use Rattle.method.proofs.View.{started-unstarted}
 use Rattle.method.proofs.Bounded.{table-few}
 use Rattle.method.proofs.Working.{work-ok}
-use Rattle.method.proofs.Tight.{sent-within, within-before}
+use Rattle.method.proofs.Tight.{at-most-243, sent-within, within-before}
 use Rattle.network.specs.Layout.{netOf, Laid}
 use Rattle.run_cells.specs.Part.{Part, entryMost, tableSize, sentMost, sentCount, entryCount, lpAt, nodeOf, siteOf}
 use Rattle.run_cells.proofs.Lists.{sent-length, table-length}
@@ -42,10 +42,7 @@ module _ (net : Net) (small : Sizes net) (va : Valid net) (i : ℕ) (at : IsNode
 
   -- law l, for a node that holds its premise
   pub sent-fits : Spread net i nd → SentFits nd
-  sent-fits spread =
-      let fewer : net .n - 1 ≤ 15 = omega (arith, small .nodes .1) in
-      let p : (net .n - 1) * net .lmax ≤ 15 * 15 = mul-le-mul fewer (small .lengths .1) in
-      omega (arith, sent-within net va i nd spread at T ok, small .nodes .1)
+  sent-fits spread = omega (arith, sent-within net va i nd spread at T ok, at-most-243 net small)
 
   -- tables, LP and lengths
   product : length (nd .table) * net .lmax ≤ 16 * 15

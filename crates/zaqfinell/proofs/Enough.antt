@@ -1,6 +1,6 @@
 -- No call with an accepted network is refused where the nodes asked for are nodes of the house, a node whose file is wanted has started,
 -- and a room has the size that the header calls always enough. A room of that size is never too short for the entries of a file.
-use mathlib.Core.Path.{_≡_, refl, sym, ap, _∙_}
+use mathlib.Core.Path.{_≡_, sym, ap, _∙_}
 use mathlib.Core.Logic.{inl, inr, _≢_}
 use mathlib.Core.Bool.{false}
 use mathlib.Core.List.{List}
@@ -12,7 +12,6 @@ use borrow.Author.Tests.{le-ltb}
 use Rattle.bits.specs.Bits.{bitsOf}
 use Rattle.bits.proofs.Bytes.{field-below}
 use Rattle.method.specs.Network.{IsNode, Accepted}
-use Rattle.method.specs.Rules.{Phase, unstarted, started, stopped}
 use Rattle.method.specs.Steps.{steps}
 use Rattle.method.specs.Entries.{phase}
 use Rattle.refusal.specs.declared.Refusal.{Refusal}
@@ -26,9 +25,9 @@ use Rattle.table.specs.Reader.{headerAt, fileRows, reading}
 use Rattle.table.specs.Laws.{Started}
 use Rattle.table.proofs.Proved.{at-most-27}
 use Rattle.call.specs.Files.{outcomeRefusal, entriesOutcome}
-use Rattle.call.specs.Calls.{nodesOf, isUnstarted, fileAfter, writeRows, writeRefusal, runRows, runRefusal, entryRows, entryRefusal}
+use Rattle.call.specs.Calls.{nodesOf, fileAfter, writeRows, writeRefusal, runRows, runRefusal, entryRows, entryRefusal}
 use Rattle.call.specs.Calls.{nodesPassed, routeRefusal, packRows, packRefusal}
-use Rattle.call.proofs.Asked.{route-else}
+use Rattle.call.proofs.Asked.{not-unstarted, route-else}
 use Rattle.call.proofs.Passed.{way-few}
 use Rattle.zaqfinell.specs.Numbers.{ofFile, NoneOr}
 use Rattle.zaqfinell.proofs.Refused.{table-refused}
@@ -37,11 +36,6 @@ use Rattle.zaqfinell.proofs.Numbers.{of-file}
 -- a room that is as wide as what it takes is not refused
 enough : (wide long : ℕ) → long ≤ wide → refused (roomRows wide long) ≡ 0
 enough wide long le = rw (le-ltb wide long le)
-
-has-started : (ph : Phase) → ph ≢ unstarted → isUnstarted ph ≡ false
-has-started unstarted up = absurd (up refl)
-has-started started up = refl
-has-started stopped up = refl
 
 module _ (net : Checked) (accepted : IsAccepted net) (fit : Accepted (net .meant)) where
   -- no row after the network's holds
@@ -56,7 +50,7 @@ module _ (net : Checked) (accepted : IsAccepted net) (fit : Accepted (net .meant
   write-clear bs i wide up le =
       let few = at-most-27 (net .meant) fit (steps bs) i up in
       let rows = writeRows (net .meant) (steps bs) i wide in
-      clear rows (number-clear rows (inside i (up .0) next has-started (phase (net .meant) (steps bs) i) (up .1) next
+      clear rows (number-clear rows (inside i (up .0) next not-unstarted (phase (net .meant) (steps bs) i) (up .1) next
       le-ltb wide (length (fileAfter net bs i)) (omega arith) next tt))
 
   -- 16 nodes have 2 * 16 * 16 numbers

@@ -16,7 +16,7 @@ use Rattle.method.specs.Steps.{steps}
 use Rattle.refusal.specs.declared.Refusal.{Refusal}
 use Rattle.refusal.proofs.Rows.{_next_, rows-else}
 use Rattle.refusal.proofs.Tests.{both}
-use Rattle.refusal.specs.Rows.{Row, refusedBy, first, refused, roomRows, _else_, askRows}
+use Rattle.refusal.specs.Rows.{Row, _when_, refusedBy, first, refused, roomRows, _else_, askRows}
 use Rattle.network.specs.Refusal.{loneRows, arcsRows}
 use Rattle.network.specs.Bytes.{nodeCount, lmax, count, arcs, headerByteRows, paddingRows, byteRows}
 use Rattle.network.specs.ArcList.{headerListRows, listRows}
@@ -83,16 +83,13 @@ module _ (ns : List ℕ) where
       go true rest = inr (among (suc (row .below)) ns (each .0))
       go false rest = rest
 
--- a network's arcs: 5, 6, 7, 8
-bytes-arcs : (n lmax : ℕ) (earlier ar : List Arc) → Each ofBytes (arcsRows n lmax earlier ar)
+-- the rows of a network's arcs
+each-arcs : (ns : List ℕ) → Each ns (5 when true ∷ 6 when true ∷ 7 when true ∷ 8 when true ∷ []) → (n lmax : ℕ) (earlier ar : List Arc)
+    → Each ns (arcsRows n lmax earlier ar)
 unfolding arcsRows loneRows
-bytes-arcs n lmax earlier [] = tt
-bytes-arcs n lmax earlier (a ∷ ar) = refl next refl next refl next refl next bytes-arcs n lmax (a ∷ earlier) ar
-
-list-arcs : (n lmax : ℕ) (earlier ar : List Arc) → Each ofList (arcsRows n lmax earlier ar)
-unfolding arcsRows loneRows
-list-arcs n lmax earlier [] = tt
-list-arcs n lmax earlier (a ∷ ar) = refl next refl next refl next refl next list-arcs n lmax (a ∷ earlier) ar
+each-arcs ns in-ns n lmax earlier [] = tt
+each-arcs ns in-ns n lmax earlier (a ∷ ar) =
+    in-ns .0 next in-ns .1 .0 next in-ns .1 .1 .0 next in-ns .1 .1 .1 .0 next each-arcs ns in-ns n lmax (a ∷ earlier) ar
 
 of-bytes : (s : List ℕ) → NoneOr ofBytes (fromBytes s .refused)
 unfolding byteRows headerByteRows
@@ -100,11 +97,14 @@ of-bytes s =
     let ar = arcsRows (nodeCount s) (lmax s) [] (arcs s 0 (count s)) in
     each-told ofBytes (byteRows s)
     (refl next refl next refl next refl next refl next
-    each-both ofBytes ar (paddingRows s) (bytes-arcs (nodeCount s) (lmax s) [] (arcs s 0 (count s))) (refl next tt))
+    each-both ofBytes ar (paddingRows s) (each-arcs ofBytes (refl next refl next refl next refl next tt) (nodeCount s) (lmax s) [] (arcs s 0 (count s)))
+    (refl next tt))
 
 of-list : (n lmax : ℕ) (ar : List Arc) → NoneOr ofList (fromList n lmax ar .refused)
 unfolding listRows headerListRows
-of-list n lmax ar = each-told ofList (listRows n lmax ar) (refl next refl next refl next list-arcs n lmax [] ar)
+of-list n lmax ar =
+    each-told ofList (listRows n lmax ar)
+    (refl next refl next refl next each-arcs ofList (refl next refl next refl next refl next tt) n lmax [] ar)
 
 -- and what the calls refuse after it
 numbers-of : (own : List ℕ) (net : Checked) → NoneOr own (net .refused) → NumbersOf own net
@@ -124,7 +124,7 @@ numbers-of own net check =
 -- of a file
 each-record : (h : Header) (seen : List Filled) (e : Filled) → Each ofFile (recordRows one h seen e)
 unfolding fieldRows
-each-record h seen e = (refl next refl next refl next tt)
+each-record h seen e = refl next refl next refl next tt
 
 each-records : (h : Header) (es : List Filled) → Each ofFile (recordsRows one h es)
 unfolding recordsRows
@@ -137,7 +137,7 @@ each-next h seen B p = go (stands one B p)
   where
     go : (t : Bool) → Each ofFile (cond t (recordRows one h seen (recordAt one seen B p)) (endRows B p))
     go true = each-record h seen (recordAt one seen B p)
-    go false = (refl next refl next tt)
+    go false = refl next refl next tt
 
 pub of-file : (s : List ℕ) → NoneOr ofFile (refused (fileRows one s))
 unfolding fileRows bodyRows headerRows

@@ -1,12 +1,12 @@
 -- K6: no sent list of an accepted network gets longer than law l says, and a small house reaches it.
 use mathlib.Core.Path.{refl}
 use mathlib.Core.List.{List}
-use Prim.Native.Nat.{ℕ, _-_, _*_, _≤_}
-use native.Mathlib.Nat.{mul-le-mul}
+use Prim.Native.Nat.{ℕ, _≤_}
 use native.Mathlib.Omega.{arith}
 use Rattle.method.specs.Network.{IsNode, Accepted}
 use Rattle.method.specs.Steps.{steps}
 use Rattle.method.proofs.Proved.{laws as method-laws}
+use Rattle.method.proofs.Tight.{at-most-243}
 use Rattle.method.proofs.Reached.{line-sent}
 use Rattle.network.specs.Refusal.{joined, loneRows, arcsRows}
 use Rattle.network.specs.ArcList.{headerListRows, listRows}
@@ -17,9 +17,7 @@ use Rattle.zaqfinell.specs.SentLists.{sentBy, sentBound, FewSent, line, 
 
 fit-by : (net : Checked) → Accepted (net .meant) → FewSent net
 fit-by net fit =
-    let fewer : nodesOf net - 1 ≤ 15 = omega (arith, fit .sizes .nodes .1) in
-    let most : (nodesOf net - 1) * net .meant .lmax ≤ 15 * 15 = mul-le-mul fewer (fit .sizes .lengths .1) in
-    record { sent = sent; at-most-243 = λ bs i at. omega (arith, sent bs i at, fit .sizes .nodes .1) }
+    record { sent = sent; at-most-243 = λ bs i at. omega (arith, sent bs i at, at-most-243 (net .meant) (fit .sizes)) }
   where
     sent : (bs : List ℕ) (i : ℕ) → IsNode (nodesOf net) i → sentBy net bs i ≤ sentBound net
     sent bs i at = method-laws (net .meant) .l-sent (fit .valid) (steps bs) i at

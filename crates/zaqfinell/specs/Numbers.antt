@@ -35,7 +35,7 @@ pub record NumbersOf (own : List ℕ) (net : Checked) : Type 0 where
   pub entry : (i y : ℕ) → NoneOr (own ++ (11 ∷ [])) (entryRefusal net i y)
   -- zaq_route, zaq_route_arcs
   pub route : (bs : List ℕ) (i y wide : ℕ) → NoneOr (own ++ (11 ∷ 13 ∷ [])) (routeRefusal net bs i y wide)
-  -- zaq_pack_network
+  -- zaq_pack_network, which takes a list
   pub pack : (wide : ℕ) → NoneOr (own ++ (13 ∷ [])) (packRefusal net wide)
 
 pub record Numbers : Type 0 where
