@@ -7,6 +7,8 @@
 #define PLAIN_CALLS(level)                                                                                                                 \
     uint32_t plain_check_##level(const uint8_t *net, uint64_t net_len);                                                                    \
     uint32_t plain_check_arcs_##level(uint8_t n, uint8_t lmax, const zaq_arc *arcs, uint64_t count);                                       \
+    uint32_t plain_most_taken_##level(const uint8_t *net, uint64_t net_len);                                                               \
+    uint32_t plain_most_taken_arcs_##level(uint8_t n, uint8_t lmax, const zaq_arc *arcs, uint64_t count);                                  \
     uint32_t plain_run_##level(                                                                                                            \
         const uint8_t *net, uint64_t net_len, const uint8_t *steps, uint64_t steps_len, uint64_t counts[4], uint16_t *entries,             \
         uint64_t entries_len);                                                                                                             \

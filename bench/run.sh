@@ -19,6 +19,12 @@ for source in plain_run plain_list plain_read plain_shortest; do
         parts+=("$out/${source}_$level.o")
     done
 done
+# linked last, so that no other part moves
+most=()
+for level in O2 O3; do
+    $compile "-$level" -DLEVEL="$level" -c bench/plain_most.c -o "$out/plain_most_$level.o"
+    most+=("$out/plain_most_$level.o")
+done
 $compile -O2 -c bench/houses.c -o "$out/houses.o"
 for source in reference reference_run in_header; do $compile -O2 -c "tests/outside/$source.c" -o "$out/$source.o"; done
 
@@ -30,6 +36,6 @@ if [ "$emulated" = yes ] && [ -z "${ZAQ_LIBRARY:-}" ]; then
     programs=stack
 fi
 for program in $programs; do
-    $compile -O2 "bench/$program.c" "${parts[@]}" "$library" -o "$out/$program"
+    $compile -O2 "bench/$program.c" "${parts[@]}" "$library" "${most[@]}" -o "$out/$program"
     "$out/$program"
 done

@@ -72,6 +72,16 @@ static void run_arcs(void)
     sink = zaq_run_arcs(LIST_RUN, counts, entries, ZAQ_ENTRIES_ROOM);
 }
 
+static void most_taken(void)
+{
+    sink = zaq_most_taken(house.net, house.net_len);
+}
+
+static void most_taken_arcs(void)
+{
+    sink = zaq_most_taken_arcs(LIST);
+}
+
 static void entry_arcs(void)
 {
     sink = zaq_entry_arcs(LIST_RUN, 1, 16);
@@ -95,6 +105,7 @@ static const struct {
 } calls[] = {
     {"zaq_check_network", check_network, 0},
     {"zaq_run", run, WHOLE_CALL},
+    {"zaq_most_taken", most_taken, 0},
     {"zaq_entry", entry, WHOLE_CALL},
     {"zaq_route", route, WHOLE_CALL},
     {"zaq_write_table", write_table, WHOLE_CALL},
@@ -103,6 +114,7 @@ static const struct {
     {"zaq_pack_network", pack_network, 0},
     {"zaq_check_arcs", check_arcs, 0},
     {"zaq_run_arcs", run_arcs, WHOLE_CALL},
+    {"zaq_most_taken_arcs", most_taken_arcs, 0},
     {"zaq_entry_arcs", entry_arcs, WHOLE_CALL},
     {"zaq_route_arcs", route_arcs, WHOLE_CALL},
     {"zaq_write_table_arcs", write_table_arcs, WHOLE_CALL},

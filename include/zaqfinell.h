@@ -18,7 +18,7 @@
 #include <stddef.h> /* NULL */
 #include <stdint.h>
 
-#define ZAQ_VERSION "0.2.0"
+#define ZAQ_VERSION "0.3.0"
 
 #ifdef __cplusplus
 extern "C" {
@@ -114,6 +114,9 @@ static inline uint32_t zaq_passed(uint32_t answer) { return answer >> 8 & 255; }
 /* How many numbers a call wrote into the room (for a route, use zaq_passed). */
 static inline uint32_t zaq_written(uint32_t answer) { return answer >> 8 & 65535; }
 
+/* How many steps of a run can be taken at most. */
+static inline uint32_t zaq_most(uint32_t answer) { return answer >> 8; }
+
 /* ---- The firmware's three calls ----
  *
  * "The network's" refusals are, in this order: 1 if there are fewer than 3 bytes, 2, 3, 4, 1 for any other wrong length, then arc by arc
@@ -151,6 +154,13 @@ uint32_t zaq_run(
     const uint8_t *net, uint64_t net_len, const uint8_t *steps, uint64_t steps_len, uint64_t counts[4], uint16_t *entries,
     uint64_t entries_len);
 
+/* How long a run can get: in any order of steps, zaq_run never counts more than zaq_most as taken. It is n + arcs * (n * LMAX + n + 1), 1 to
+ * 61696. Some houses take as many: a one-way ring of arcs of length 1, where LMAX is 1. A recorder with room for zaq_most steps has room for
+ * every step that is taken, and these alone lead to the same tables. Idle and unknown steps are not counted: there is no end to them.
+ * Refusals: the network's.
+ */
+uint32_t zaq_most_taken(const uint8_t *net, uint64_t net_len);
+
 /* One entry after a run, the node's for the target: zaq_distance and zaq_hop. Refusals: the network's, 11. */
 uint32_t zaq_entry(const uint8_t *net, uint64_t net_len, const uint8_t *steps, uint64_t steps_len, uint32_t node, uint32_t target);
 
@@ -181,6 +191,7 @@ uint32_t zaq_write_table_arcs(
 uint32_t zaq_run_arcs(
     uint8_t n, uint8_t lmax, const zaq_arc *arcs, uint64_t arcs_len, const uint8_t *steps, uint64_t steps_len, uint64_t counts[4],
     uint16_t *entries, uint64_t entries_len);
+uint32_t zaq_most_taken_arcs(uint8_t n, uint8_t lmax, const zaq_arc *arcs, uint64_t arcs_len);
 uint32_t zaq_entry_arcs(
     uint8_t n, uint8_t lmax, const zaq_arc *arcs, uint64_t arcs_len, const uint8_t *steps, uint64_t steps_len, uint32_t node,
     uint32_t target);

@@ -83,7 +83,8 @@ def entry(target, state, distance=None, hop=None, **more):
 names = ['"\\\\"/</script>&\\u0041', "%s%n{}[],:#", "\U0001f50a ü \u202e\u2028", None]
 devices = [{"node": k + 1, "name": name} for k, name in enumerate(names)]
 nameless = [{"node": 1, "name": None}, {"node": 2, "name": None}]
-same("check", load("check"), {"file": f"{work}/hostile.txt", "accepted": True, "devices": devices, "arcs": 4, "lmax": 4})
+same("check", load("check"), {"file": f"{work}/hostile.txt", "accepted": True, "devices": devices, "arcs": 4, "lmax": 4,
+    "most_taken": len(devices) + 4 * (len(devices) * 4 + len(devices) + 1)})
 same("check of a wrong arc", load("check_refused"), {
     "file": f"{work}/wrong_arc", "accepted": False, "refusal": 8, "words": "two arcs with the same tail and head",
     "arc": {"number": 3, "tail": 1, "head": 2, "length": 3}, "mistakes": [], "mistakes_in_all": 0})

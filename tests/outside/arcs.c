@@ -32,6 +32,7 @@ static unsigned same_packing(uint8_t n, uint8_t lmax, size_t count, const char *
     about("arcs", (const uint8_t *)list, count * sizeof *list);
     const zaq_arc *lent = (const zaq_arc *)at_edge(0, (const uint8_t *)list, count * sizeof *list);
     same_answer(CHECK_ARCS, zaq_check_arcs(n, lmax, lent, count), refusal, what);
+    same_answer(MOST_TAKEN_ARCS, zaq_most_taken_arcs(n, lmax, lent, count), most_answer(refusal, &net), what);
     same_answer(PACK, zaq_pack_network(n, lmax, lent, count, got.bytes, size), right, what);
     check(memcmp(&got, &want, sizeof got) == 0, "the room holds the network's bytes and nothing else");
     return refusal;

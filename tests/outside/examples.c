@@ -128,6 +128,7 @@ static void no_input(void)
     uint16_t entries[18];
     uint32_t nothing = entry(ZAQ_UNKNOWN, ZAQ_NO_HOP);
     same_answer(CHECK, zaq_check_network(NULL, 0), 1, "no network bytes");
+    same_answer(MOST_TAKEN, zaq_most_taken(NULL, 0), 1, "no network bytes, no steps");
     same_answer(WRITE, zaq_write_table(NULL, 0, NULL, 0, 1, NULL, 0), 1, "no network bytes, no steps, no room");
     same_answer(RUN, zaq_run(NULL, 0, NULL, 0, counts, NULL, 0), 1, "no network bytes to run");
     same_answer(ENTRY, zaq_entry(NULL, 0, NULL, 0, 1, 1), 1, "no network bytes to ask");
@@ -166,6 +167,7 @@ static void no_arcs(void)
     uint8_t room[ZAQ_FILE_ROOM];
     uint32_t nothing = entry(ZAQ_UNKNOWN, ZAQ_NO_HOP);
     same_answer(CHECK_ARCS, zaq_check_arcs(1, 1, NULL, 0), 0, "no arcs");
+    same_answer(MOST_TAKEN_ARCS, zaq_most_taken_arcs(1, 1, NULL, 0), 1 << 8, "no arcs, one start");
     same_answer(PACK, zaq_pack_network(1, 1, NULL, 0, room, 3), 3 << 8, "no arcs packed");
     same_answer(PACK, zaq_pack_network(1, 1, NULL, 0, NULL, 0), 13, "no arcs and no room");
     same_answer(RUN_ARCS, zaq_run_arcs(1, 1, NULL, 0, NULL, 0, counts, NULL, 0), 13, "no arcs, no steps, no room");

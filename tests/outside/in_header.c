@@ -15,6 +15,11 @@ uint32_t entry_answer(struct ref_entry e)
     return (uint32_t)header_distance(e) << 16 | (uint32_t)header_hop(e) << 8;
 }
 
+uint32_t most_answer(unsigned refusal, const struct ref_net *net)
+{
+    return refusal ? refusal : (uint32_t)ref_most_taken(net) << 8;
+}
+
 size_t arc_list(const struct ref_net *net, zaq_arc list[MOST_ARCS])
 {
     for (unsigned k = 0; k < net->arcs; k++)

@@ -8,6 +8,8 @@
 unsigned header_distance(struct ref_entry e);
 unsigned header_hop(struct ref_entry e);
 uint32_t entry_answer(struct ref_entry e);
+/* What zaq_most_taken answers of a network with this refusal. */
+uint32_t most_answer(unsigned refusal, const struct ref_net *net);
 /* The network's arcs as a caller hands them over; returns how many. */
 size_t arc_list(const struct ref_net *net, zaq_arc list[MOST_ARCS]);
 /* What zaq_run leaves in its two rooms: the counts, and 2 * n * n numbers. */

@@ -85,6 +85,7 @@ static const struct {
     {"01's examples", test_examples, OTHERS},
     {"networks", test_networks, OTHERS},
     {"runs", test_runs, OTHERS},
+    {"how long a run can get", test_most_taken, OTHERS},
     {"entries and routes", test_entries, OTHERS},
     {"arc lists", test_arcs, OTHERS},
     {"rooms of every size", test_rooms, OTHERS},

@@ -7,8 +7,11 @@ static uint8_t bytes[512];
 static void compare(size_t len, const char *what)
 {
     struct ref_net net;
+    unsigned refusal = ref_read_network(bytes, len, &net);
+    const uint8_t *lent = at_edge(0, bytes, len);
     about("network", bytes, len);
-    same_answer(CHECK, zaq_check_network(at_edge(0, bytes, len), len), ref_read_network(bytes, len, &net), what);
+    same_answer(CHECK, zaq_check_network(lent, len), refusal, what);
+    same_answer(MOST_TAKEN, zaq_most_taken(lent, len), most_answer(refusal, &net), what);
 }
 
 /* Network Q of document 01, and one fault of each kind in it, with the number that 01 gives. */

@@ -108,6 +108,11 @@ size_t ref_network_bytes(const struct ref_net *net, uint8_t *bytes)
     return len;
 }
 
+unsigned ref_most_taken(const struct ref_net *net)
+{
+    return net->n + net->arcs * (net->n * net->lmax + net->n + 1);
+}
+
 /* ---- table files */
 
 size_t ref_write_file(const struct ref_run *run, unsigned node, uint8_t *bytes)

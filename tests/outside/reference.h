@@ -23,6 +23,8 @@ unsigned ref_read_network(const uint8_t *bytes, size_t len, struct ref_net *net)
 unsigned ref_read_arc_list(unsigned n, unsigned lmax, const struct ref_arc *arcs, size_t count, struct ref_net *net);
 /* The network's bytes; returns how many. */
 size_t ref_network_bytes(const struct ref_net *net, uint8_t *bytes);
+/* Document 02, K8: n plus the number of arcs times (n * LMAX + n + 1). */
+unsigned ref_most_taken(const struct ref_net *net);
 
 /* A message: its kind, and the label or the length. */
 struct ref_msg {

@@ -22,7 +22,8 @@ int is_quick(void);
 /* ---- seen.c: the calls that can refuse, and what they have answered */
 
 enum call {
-    CHECK, WRITE, READ_ENTRY, READ_TABLE, RUN, ENTRY, ROUTE, PACK, CHECK_ARCS, WRITE_ARCS, RUN_ARCS, ENTRY_ARCS, ROUTE_ARCS, CALLS
+    CHECK, WRITE, READ_ENTRY, READ_TABLE, RUN, MOST_TAKEN, ENTRY, ROUTE, PACK,
+    CHECK_ARCS, WRITE_ARCS, RUN_ARCS, MOST_TAKEN_ARCS, ENTRY_ARCS, ROUTE_ARCS, CALLS
 };
 /* A call's answer is the one wanted; its refusal is counted. */
 void same_answer(enum call call, uint32_t got, uint32_t want, const char *what);
@@ -72,6 +73,7 @@ void test_words(void);
 void test_networks(void);
 void test_examples(void);
 void test_runs(void);
+void test_most_taken(void);
 void test_entries(void);
 void test_rooms(void);
 void test_arcs(void);

@@ -99,6 +99,19 @@ static uint32_t whole_run(
     return 0;
 }
 
+static uint32_t most_taken(const struct net *net, uint32_t refusal)
+{
+    if (refusal)
+        return refused(refusal);
+    uint32_t arcs = net->arcs - (WRONG(most_one_arc_less) && net->arcs > 0), messages = net->n * net->lmax + net->n + 1;
+    if (WRONG(most_by_messages_sent))
+        messages = (net->n - 1) * net->lmax + net->n + 2;
+    if (WRONG(most_without_end))
+        messages--;
+    uint32_t most = (WRONG(most_without_starts) ? 0 : net->n) + arcs * messages;
+    return (WRONG(most_of_15_bits) ? most & 32767 : most) << 8;
+}
+
 static uint32_t one_entry(struct run *run, uint32_t refusal, const uint8_t *steps, uint64_t len, uint32_t node, uint32_t target)
 {
     node = low_bits(node);
@@ -178,6 +191,13 @@ uint32_t zaq_run(
     return whole_run(&run, take_network(net, net_len, &run.net), steps, steps_len, counts, entries, entries_len);
 }
 
+uint32_t zaq_most_taken(const uint8_t *net, uint64_t net_len)
+{
+    struct net taken;
+    uint32_t refusal = take_network(net, net_len, &taken);
+    return most_taken(&taken, refusal);
+}
+
 uint32_t zaq_entry(const uint8_t *net, uint64_t net_len, const uint8_t *steps, uint64_t steps_len, uint32_t node, uint32_t target)
 {
     struct run run = {.counts = {0}};
@@ -214,6 +234,13 @@ uint32_t zaq_run_arcs(
 {
     struct run run = {.counts = {0}};
     return whole_run(&run, take_list(n, lmax, arcs, arcs_len, &run.net), steps, steps_len, counts, entries, entries_len);
+}
+
+uint32_t zaq_most_taken_arcs(uint8_t n, uint8_t lmax, const zaq_arc *arcs, uint64_t arcs_len)
+{
+    struct net taken;
+    uint32_t refusal = take_list(n, lmax, arcs, arcs_len, &taken);
+    return most_taken(&taken, refusal);
 }
 
 uint32_t zaq_entry_arcs(

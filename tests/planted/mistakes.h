@@ -64,6 +64,11 @@
     X(run_touches_next, "the number after the entries is touched")                                                                         \
     X(run_clears_rest, "the rest of the room of entries is cleared")                                                                       \
     X(run_counts_on_refusal, "the counts are cleared although the network is refused")                                                     \
+    X(most_without_starts, "the starts are left out of the most steps that can be taken")                                                  \
+    X(most_one_arc_less, "of the arcs over which steps are taken one is left out")                                                         \
+    X(most_without_end, "of the messages of an arc the end is left out")                                                                   \
+    X(most_by_messages_sent, "the most steps are those by K6's number of messages, not 02's")                                              \
+    X(most_of_15_bits, "of the most steps only the low 15 bits are given")                                                                 \
     X(node_of_8_bits, "of the node's number only the low 8 bits are looked at")                                                            \
     X(node_up_to_16, "a node up to 16 is taken in every house")                                                                            \
     X(eleven_after_thirteen, "13 before 11")                                                                                               \

@@ -65,17 +65,21 @@ int check_command(const struct call *call)
     int status = load_or_answer(call, call->words[0], &house);
     if (status)
         return status;
+    uint32_t most = zaq_most(zaq_most_taken(house.net, house.net_len));
     if (call->json) {
         put_verdict(call->words[0], 1);
         put_json_devices(stdout, &house);
-        printf(", \"arcs\": %lu, \"lmax\": %u}\n", (unsigned long)house.arcs_len, (unsigned)house.lmax);
+        printf(", \"arcs\": %lu, \"lmax\": %u, \"most_taken\": %lu}\n", (unsigned long)house.arcs_len, (unsigned)house.lmax,
+            (unsigned long)most);
     } else {
         put_shown(stdout, input_name(call->words[0]));
         fputs(" is accepted: ", stdout);
         put_number(stdout, house.n, "device");
         fputs(", ", stdout);
         put_number(stdout, house.arcs_len, "arc");
-        printf(", LMAX %u\n", (unsigned)house.lmax);
+        printf(", LMAX %u; a run takes at most ", (unsigned)house.lmax);
+        put_number(stdout, most, "step");
+        putchar('\n');
     }
     return DONE;
 }

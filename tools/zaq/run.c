@@ -25,8 +25,8 @@ int run_steps(const struct house *house, const uint8_t *steps, size_t steps_len,
 
 int run_to_the_end(const struct house *house, struct bytes *steps, struct outcome *outcome)
 {
-    /* no node sends more messages than this, and while one has not stopped, each round delivers one of them at least */
-    size_t messages = (house->n - 1u) * house->lmax + house->n + 2u, rounds = messages * house->arcs_len;
+    /* while a node has not stopped, a step is taken in each round at least, and no run takes more of them than this */
+    uint32_t rounds = zaq_most(zaq_most_taken(house->net, house->net_len));
     *steps = (struct bytes){NULL, 0, 0};
     if (!has_room(steps, house->n))
         return FAILED;

@@ -8,6 +8,7 @@ use Rattle.method.specs.Network.{Net}
 use Rattle.method.specs.Rules.{Phase, unstarted, started, stopped}
 use Rattle.method.specs.Steps.{State, Counts, Step, steps, run, counts}
 use Rattle.method.specs.Entries.{Entry, phase, entry, stoppedTo}
+use Rattle.method.specs.Bounds.{mostTaken}
 use Rattle.method.specs.Marks.{distanceOf, rowNumbers}
 use Rattle.method.specs.Route.{way}
 use Rattle.method.specs.Room.{keptIf, begins}
@@ -82,6 +83,10 @@ countsAfter net bs = countList (countsOf net bs) (stoppedOf net bs)
 -- the entries of every node as numbers
 abbrev pub entriesAfter : Checked → List ℕ → List ℕ
 entriesAfter net bs = rowNumbers (entryAfter net bs) (nodesOf net) (nodesOf net)
+
+-- How many steps of a run can be taken: 02, K8.
+abbrev pub mostAnswer : Checked → ℕ
+mostAnswer net = net .refused else values (mostTaken (net .meant)) 0
 
 -- One entry: "Then 11", for the node and for the target.
 abbrev pub entryRows : Net → ℕ → ℕ → List Row

@@ -8,7 +8,7 @@ use lib.ListN.{length}
 use Rattle.method.specs.Room.{keptIf, begins}
 use Rattle.network.specs.Checked.{Checked}
 use Rattle.call.specs.Calls.{writeAnswer, writeRoom, runRefusal, countsAfter, entriesAfter, entryAnswer, routeAnswer, routeRoom}
-use Rattle.call.specs.Calls.{packAnswer, packRoom}
+use Rattle.call.specs.Calls.{packAnswer, packRoom, mostAnswer}
 
 -- zaq_check_network, zaq_check_arcs
 abbrev pub CheckPromise : Checked → ℕ → Type 0
@@ -24,6 +24,10 @@ pub record RunPromise (net : Checked) (bs counts entries : List ℕ) (r : ℕ) (
   pub answer : r ≡ runRefusal net (length entries)
   pub counted : counts′ ≡ keptIf (runRefusal net (length entries)) counts (begins (countsAfter net bs) counts)
   pub left : entries′ ≡ keptIf (runRefusal net (length entries)) entries (begins (entriesAfter net bs) entries)
+
+-- zaq_most_taken, zaq_most_taken_arcs
+abbrev pub MostPromise : Checked → ℕ → Type 0
+MostPromise net r = r ≡ mostAnswer net
 
 -- zaq_entry, zaq_entry_arcs
 abbrev pub EntryPromise : Checked → List ℕ → ℕ → ℕ → ℕ → Type 0

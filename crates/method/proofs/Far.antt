@@ -12,6 +12,7 @@ use borrow.Author.Tests.{ltb-true}
 use Rattle.method.specs.If.{if_then_else_}
 use Rattle.method.specs.Network.{Arc, Net, IsNode, IsArc}
 use Rattle.method.specs.Rules.{Phase, unstarted, started, stopped}
+use Rattle.method.specs.Bounds.{startsAnd}
 use Rattle.method.specs.Steps.{Step, start, deliver, Named, node, arc, nothing, arcNamed, names}
 use Rattle.method.proofs.Numbers.{last-or-before}
 use Rattle.method.proofs.Turns.{stage}
@@ -57,10 +58,6 @@ handedOver given (a ∷ ar) = given (a .tail) (a .head) + handedOver given ar
 abbrev pub far : Net → (ℕ → Phase) → (ℕ → ℕ → ℕ) → ℕ
 far net ph given = startedTo ph (net .n) + handedOver given (net .arcs)
 
--- how far it can come
-abbrev pub farthest : Net → ℕ
-farthest net = net .n + length (net .arcs) * (net .n * net .lmax + net .n + 1)
-
 starts-few : (ph : Phase) → starts ph ≤ 1
 starts-few unstarted = omega arith
 starts-few started = omega arith
@@ -76,10 +73,10 @@ handed-few given m [] le = zero-le
 handed-few given m (a ∷ ar) le =
     omega (arith, le (a .tail) (a .head) (a .len) (inl (refl, refl, refl)), handed-few given m ar (λ i j l q. le i j l (inr q)))
 
--- where an arc hands over at most what its head can send
-pub far-few : (net : Net) (ph : ℕ → Phase) (given : ℕ → ℕ → ℕ)
-    → ((i j l : ℕ) → IsArc (net .arcs) i j l → given i j ≤ net .n * net .lmax + net .n + 1) → far net ph given ≤ farthest net
-far-few net ph given each = omega (arith, started-few ph (net .n), handed-few given (net .n * net .lmax + net .n + 1) (net .arcs) each)
+-- where no arc has handed over more than m
+pub far-few : (net : Net) (ph : ℕ → Phase) (given : ℕ → ℕ → ℕ) (m : ℕ) → ((i j l : ℕ) → IsArc (net .arcs) i j l → given i j ≤ m)
+    → far net ph given ≤ startsAnd net m
+far-few net ph given m each = omega (arith, started-few ph (net .n), handed-few given m (net .arcs) each)
 
 -- it never goes back
 starts-one : (ph : Phase) → 1 ≤ stage ph → 1 ≤ starts ph

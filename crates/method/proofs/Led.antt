@@ -1,4 +1,4 @@
--- The first hop of each record is its target, or has an earlier record that goes straight to it: law n.
+-- The first hop of each record is its target, or has an earlier record that goes straight to it: law o.
 use mathlib.Core.Path.{_≡_, refl, sym, ap, subst, _∙_}
 use mathlib.Core.Logic.{_⊎_, inl, inr, _≢_}
 use mathlib.Core.Bool.{Bool, true, false, cond}

@@ -1,4 +1,4 @@
--- Laws a to l hold of every network.
+-- Laws a to m hold of every network.
 use mathlib.Core.List.{_++_}
 use Rattle.method.specs.Network.{Net}
 use Rattle.method.specs.Laws.{Laws}
@@ -16,6 +16,8 @@ use Rattle.method.proofs.Counted.{step-counts, total, each}
 use Rattle.method.proofs.Handed.{hands-over, others-same}
 use Rattle.method.proofs.Enough.{enough, same-choice}
 use Rattle.method.proofs.Tight.{sent-tight}
+use Rattle.method.proofs.Taken.{taken-few, taken-within}
+use Rattle.method.proofs.Ends.{runs-end}
 
 pub laws : (net : Net) → Laws net
 laws net =
@@ -29,6 +31,7 @@ laws net =
       d-unreachable = λ va bs. stopped-unreachable net va (nodes net bs) (run-lawful net va bs);
       d-all-stopped = λ va bs. all-stopped net va (nodes net bs) (run-lawful net va bs);
       e-some-step = λ small va positive bs i at ne. some-step net small va (positive-loopless net positive) bs i at ne;
+      e-ends = λ small va positive bs. runs-end net small va (positive-loopless net positive) bs;
       f-hops-lead = λ va positive bs i y d h e. hops-lead net va bs y positive i d h e;
       g-total = total net;
       g-each = each net;
@@ -50,4 +53,6 @@ laws net =
       k-delivered = λ va bs i h. run-ok net va bs i .site .delivered-le h;
       k-same-choice = same-choice net;
       l-sent = λ va bs i at. sent-tight net va (nodes net bs) (run-lawful net va bs) i at;
+      m-taken = taken-within net;
+      m-sharp = taken-few net;
     }

@@ -1,5 +1,5 @@
 -- Every run, however messages travel, fills a node's table in the order of `Canon`, so of the records of two runs one list is the beginning
--- of the other: law m.
+-- of the other: law n.
 use mathlib.Core.Path.{_≡_, refl, sym, ap, subst, _∙_}
 use mathlib.Core.Logic.{_⊎_, inl, inr}
 use mathlib.Core.Bool.{Bool, true, false, cond}

@@ -3,7 +3,7 @@ use mathlib.Core.Path.{_≡_, refl, sym, ap, subst, _∙_}
 use mathlib.Core.Logic.{_⊎_, inl, inr, _≢_}
 use mathlib.Core.Bool.{Bool, true, false, cond}
 use mathlib.Core.List.{List, [], _∷_, _++_}
-use Prim.Native.Nat.{ℕ, _+_, _≤_, _<_, zero-le}
+use Prim.Native.Nat.{ℕ, _+_, _≤_, _<_}
 use native.Mathlib.Omega.{arith}
 use lib.Dec.{eqb}
 use lib.ListN.{length}
@@ -52,13 +52,6 @@ labels-distinct ar j [] g = tt
 labels-distinct ar j (label y ∷ s) g = (g .2, labels-distinct ar j s (g .0))
 labels-distinct ar j (len x ∷ s) g = labels-distinct ar j s (g .0)
 labels-distinct ar j (end ∷ s) g = labels-distinct ar j s (g .0)
-
--- lengths rise, so they are as many as the last one is large, at most
-pub lengths-few : (ar : List Arc) (j : ℕ) (s : List Msg) → Good ar j s → lengths s ≤ lastLen s
-lengths-few ar j [] g = zero-le
-lengths-few ar j (label y ∷ s) g = lengths-few ar j s (g .0)
-lengths-few ar j (len x ∷ s) g = omega (arith, lengths-few ar j s (g .0), g .1)
-lengths-few ar j (end ∷ s) g = lengths-few ar j s (g .0)
 
 -- a finite item is the last length
 pub item-lastLen : (s : List Msg) (v : ℕ) → item s ≡ finite v → lastLen s ≡ v

@@ -1,41 +1,44 @@
--- How many steps can be taken, law o: each starts a node or hands over a message.
+-- How many steps can be taken, law m: each starts a node or hands over a message.
 use mathlib.Core.Path.{_≡_, refl, sym, ap, subst}
 use mathlib.Core.Bool.{Bool}
 use mathlib.Core.List.{List, [], _∷_}
-use Prim.Native.Nat.{ℕ, _+_, _*_, _≤_, _<_}
+use Prim.Native.Nat.{ℕ, suc, _+_, _-_, _*_, _≤_, _<_}
+use native.Mathlib.Nat.{mul-le-mul, mul-le-mul-left}
 use native.Mathlib.Omega.{arith}
+use lib.ListN.{length}
 use borrow.Author.Tests.{eq-eqb}
 use Rattle.method.specs.If.{if_then_else_}
-use Rattle.method.specs.Network.{Net, IsArc, Valid}
+use Rattle.method.specs.Network.{Net, IsArc, Sizes, Valid}
+use Rattle.method.specs.Bounds.{mostSent, mostTaken, mostTakenSharp}
 use Rattle.method.specs.Rules.{Phase, unstarted, started, stopped}
 use Rattle.method.specs.Work.{Site, became, work, begun}
 use Rattle.method.specs.Steps.{State, sents, fresh, Step, Named, node, names, Kind, taken, idle, unknown, starting, carriedOut, step}
 use Rattle.method.specs.Steps.{runFrom, run, Counts, counted, countsFrom, counts}
 use Rattle.method.specs.Entries.{nodes}
 use Rattle.method.specs.Invariant.{Inv}
-use Rattle.method.proofs.Far.{starts, far, farthest, far-few, starts-le, far-le, far-on, named}
+use Rattle.method.proofs.Far.{starts, far, far-few, starts-le, far-le, far-on, named}
 use Rattle.method.proofs.Working.{work-ok}
 use Rattle.method.proofs.Runs.{begun-site, true-lists, fresh-ok, step-ok, run-ok}
 use Rattle.method.proofs.Always.{run-lawful}
-use Rattle.method.proofs.Bounded.{sent-bound}
 use Rattle.method.proofs.Counted.{step-counts}
 use Rattle.method.proofs.Handed.{hands-over}
+use Rattle.method.proofs.Tight.{sent-tight}
 
 -- how far a state has come
 abbrev come : Net → State → ℕ
 come net st = far net (λ i. st i .node .phase) (λ i j. st i .delivered j)
 
 -- an arc hands over at most what its head has sent
-come-few : (net : Net) → Valid net → (bs : List Step) → come net (run net bs) ≤ farthest net
-come-few net va bs = far-few net (λ i. run net bs i .node .phase) (λ i j. run net bs i .delivered j) each
+come-few : (net : Net) → Valid net → (bs : List Step) → come net (run net bs) ≤ mostTakenSharp net
+come-few net va bs = far-few net (λ i. run net bs i .node .phase) (λ i j. run net bs i .delivered j) (mostSent net) each
   where
-    each : (i j l : ℕ) → IsArc (net .arcs) i j l → run net bs i .delivered j ≤ net .n * net .lmax + net .n + 1
-    each i j l a = omega (
-      arith,
-      run-ok net va bs i .site .delivered-le j,
-      sent-bound net va (nodes net bs) (run-lawful net va bs) j
-          (va .heads i j l a),
-    )
+    each : (i j l : ℕ) → IsArc (net .arcs) i j l → run net bs i .delivered j ≤ mostSent net
+    each i j l a =
+        omega (
+          arith,
+          run-ok net va bs i .site .delivered-le j,
+          sent-tight net va (nodes net bs) (run-lawful net va bs) j (va .heads i j l a),
+        )
 
 -- a taken step goes on: a node starts, or an arc hands over a message
 module _ (net : Net) (va : Valid net) (st : State) (inv : Inv net st) where
@@ -92,6 +95,29 @@ module _ (net : Net) (va : Valid net) where
       taken-one st inv b (countsFrom net st′ bs .taken) (come net (runFrom net st′ bs)) (taken-far st′ (step-ok net va st inv b .0) bs)
       (step net st b .kind) refl (countsFrom net st′ bs) refl
 
-  pub taken-few : (bs : List Step) → counts net bs .taken ≤ farthest net
+  pub taken-few : (bs : List Step) → counts net bs .taken ≤ mostTakenSharp net
   unfolding counts run
   taken-few bs = omega (arith, taken-far fresh (fresh-ok net va) bs, come-few net va bs)
+
+-- (n − 1) × LMAX + n + 2 is no more than n × LMAX + n + 1, where LMAX is 1 or more
+pub sharp-le : (net : Net) → Sizes net → mostTakenSharp net ≤ mostTaken net
+sharp-le net small =
+    let one : 1 ≤ net .lmax = small .lengths .0 in
+    let row : net .n * net .lmax ≡ suc (net .n - 1) * net .lmax = ap (λ (k : ℕ). k * net .lmax) (omega (arith, small .nodes .0)) in
+    let less : mostSent net ≤ net .n * net .lmax + net .n + 1 = omega arith in
+    let all = mul-le-mul-left (length (net .arcs)) less in
+    omega arith
+
+pub taken-within : (net : Net) → Sizes net → Valid net → (bs : List Step) → counts net bs .taken ≤ mostTaken net
+taken-within net small va bs = omega (arith, taken-few net va bs, sharp-le net small)
+
+-- in the largest house: 257 messages over each of 240 arcs
+pub few-handed : (net : Net) → Sizes net → net .n * net .lmax + net .n + 1 ≤ 257
+few-handed net small =
+    let product : net .n * net .lmax ≤ 16 * 15 = mul-le-mul (small .nodes .1) (small .lengths .1) in
+    omega (arith, small .nodes .1)
+
+pub at-most-61696 : (net : Net) → Sizes net → mostTaken net ≤ 61696
+at-most-61696 net small =
+    let product : length (net .arcs) * (net .n * net .lmax + net .n + 1) ≤ 240 * 257 = mul-le-mul (small .arcs) (few-handed net small) in
+    omega (arith, small .nodes .1)

@@ -12,6 +12,7 @@ use Rattle.method.specs.Network.{Net, IsNode, IsArc, Sizes, Valid}
 use Rattle.method.specs.Distance.{here, via}
 use Rattle.method.specs.Message.{Msg, label, len, end, finite, lastLen, sendLen}
 use Rattle.method.specs.Rules.{Filled, Node, Choice, rule₁}
+use Rattle.method.specs.Bounds.{mostSent}
 use Rattle.method.specs.Invariant.{Has, lengths, ends, endsSent, Ok, AtLeast, Spread}
 use Rattle.method.proofs.Sent.{Sending, sending, sendLen-last, parts}
 use Rattle.method.proofs.Choosing.{Before, Chosen, rule₁-ok}
@@ -123,7 +124,7 @@ module _ (net : Net) (va : Valid net) where
         )
 
   pub sent-tight : (nodes : ℕ → Node) (lawful : Lawful net nodes) (i : ℕ) → IsNode (net .n) i
-      → length (nodes i .sent) ≤ (net .n - 1) * net .lmax + net .n + 2
+      → length (nodes i .sent) ≤ mostSent net
   sent-tight nodes lawful i at =
       omega (
         arith,
@@ -132,7 +133,7 @@ module _ (net : Net) (va : Valid net) where
       )
 
 -- in the largest house
-pub at-most-243 : (net : Net) → Sizes net → (net .n - 1) * net .lmax + net .n + 2 ≤ 243
+pub at-most-243 : (net : Net) → Sizes net → mostSent net ≤ 243
 at-most-243 net small =
     let fewer : net .n - 1 ≤ 15 = omega (arith, small .nodes .1) in
     let product : (net .n - 1) * net .lmax ≤ 15 * 15 = mul-le-mul fewer (small .lengths .1) in

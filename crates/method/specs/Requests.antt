@@ -1,34 +1,32 @@
--- What is proved of the method for later requests, for every step list: laws m to p. As in laws a to l, each says what it asks of the
+-- What is proved of the method for later requests, for every step list: laws n to p. As in laws a to m, each says what it asks of the
 -- network; none asks for positive lengths.
 use mathlib.Core.Path.{_≡_}
 use mathlib.Core.Logic.{_⊎_, _↔_}
 use mathlib.Core.Bool.{true}
 use mathlib.Core.List.{List, _∷_, _++_}
-use Prim.Native.Nat.{ℕ, _+_, _*_, _≤_, _<_}
-use lib.ListN.{length}
+use Prim.Native.Nat.{ℕ, _≤_, _<_}
+use lib.ListN.{length, getD}
 use Rattle.method.specs.Distinct.{Distinct}
 use Rattle.method.specs.Network.{Net, IsNode, IsArc, Sizes, Valid, Positive, Ranked}
-use Rattle.method.specs.Steps.{Step, byteStep, taken, step, run, counts}
+use Rattle.method.specs.Steps.{Step, byteStep, steps, taken, step, run}
 use Rattle.method.specs.Entries.{known, nodes, entry, Stopped, records}
 use Rattle.method.specs.Order.{Begins, AllLed}
 use Rattle.method.specs.Loop.{ZeroLoop, Loopless, depth, zeroLoop, Way}
 
 pub record Requests (net : Net) : Type 0 where
-  -- m. (K10) Of a node's records after two step lists, one list is the beginning of the other; two runs in which the node has stopped
+  -- n. (K10) Of a node's records after two step lists, one list is the beginning of the other; two runs in which the node has stopped
   -- have the same.
-  pub m-orders : Valid net → Ranked net → (bs cs : List Step) (i : ℕ)
+  pub n-orders : Valid net → Ranked net → (bs cs : List Step) (i : ℕ)
       → Begins (records net bs i) (records net cs i) ⊎ Begins (records net cs i) (records net bs i)
-  pub m-stopped : Valid net → Ranked net → (bs cs : List Step) (i : ℕ) → Stopped net bs i → Stopped net cs i
+  pub n-stopped : Valid net → Ranked net → (bs cs : List Step) (i : ℕ) → Stopped net bs i → Stopped net cs i
       → records net bs i ≡ records net cs i
-  -- n. (K5) The first hop of each record is its target, or the target of an earlier record whose own first hop was itself.
-  pub n-led : Valid net → Ranked net → (bs : List Step) (i : ℕ) → AllLed (records net bs i)
-  -- o. (K8) "From a fresh run 01's "taken" is never more than n plus the number of arcs times (n × LMAX + n + 1), in any order."
-  pub o-taken : Valid net → (bs : List Step) → counts net bs .taken ≤ net .n + length (net .arcs) * (net .n * net .lmax + net .n + 1)
-  -- p. (K9) Law e, where no loop consists of zero arcs only.
+  -- o. (K5) The first hop of each record is its target, or the target of an earlier record whose own first hop was itself.
+  pub o-led : Valid net → Ranked net → (bs : List Step) (i : ℕ) → AllLed (records net bs i)
+  -- p. (K9) Law e where no loop consists of zero arcs only.
   pub p-some-step : Sizes net → Valid net → Loopless net → (bs : List Step) (i : ℕ) → IsNode (net .n) i → (Stopped net bs i → ⊥)
       → (b : ℕ) × (b ≤ 255) × (step net (run net bs) (byteStep b) .kind ≡ taken)
-  -- So every run can be brought to its end.
-  pub p-ends : Valid net → Loopless net → (bs : List Step) → (cs : List Step) × ((i : ℕ) → IsNode (net .n) i → Stopped net (bs ++ cs) i)
+  pub p-ends : Sizes net → Valid net → Loopless net → (bs : List Step)
+      → (cs : List ℕ) × ((k : ℕ) → getD cs k 0 ≤ 255) × ((i : ℕ) → IsNode (net .n) i → Stopped net (bs ++ steps cs) i)
   -- "Following first hops still reaches the target, though the distance may stand still on a hop." No node is passed twice, so there
   -- are fewer hops than nodes.
   pub p-hops-lead : Valid net → Loopless net → (bs : List Step) (i y d h : ℕ) → entry net bs i y ≡ known d h

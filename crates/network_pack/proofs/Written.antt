@@ -2,7 +2,7 @@
 use mathlib.Core.Path.{_≡_, refl, sym, _∙_, ap, subst}
 use mathlib.Core.Logic.{inl, inr}
 use mathlib.Core.List.{List, [], _∷_}
-use Prim.Native.Nat.{ℕ, zero, suc, _+_, _-_, _*_, _≤_, _<_}
+use Prim.Native.Nat.{ℕ, suc, _+_, _-_, _*_, _≤_, _<_}
 use native.Mathlib.Omega.{arith}
 use native.Mathlib.Nat.{zero-add}
 use lib.ListN.{length, getD, set}
@@ -16,6 +16,7 @@ use Rattle.refusal.specs.Rows.{refused, roomRows}
 use Rattle.refusal.proofs.Rows.{else-some}
 use Rattle.network.specs.Checked.{Checked}
 use Rattle.network.specs.Layout.{nodesAt, lmaxAt, countAt, arcAt, arcsFrom, netOf, Laid}
+use Rattle.network.proofs.LaidOut.{arc-count}
 use Rattle.network.specs.Found.{Finds}
 use Rattle.network.specs.declared.Found.{Found}
 use Rattle.network.specs.Fits.{Fits, AllFit}
@@ -83,17 +84,10 @@ pub all-written : (g room : List ℕ) (m k p : ℕ) → m ≤ k → room ≡ set
 unfolding pairBytes
 all-written g room m k p h = rw (rest-none g m k h)
 
-length-arcsFrom : (g : List ℕ) (a k : ℕ) → length (arcsFrom g a k) ≡ k
-length-arcsFrom g a zero = refl
-length-arcsFrom g a (suc k) = ap suc (length-arcsFrom g (suc a) k)
-
 -- what is known of a network that is laid out
 module _ (g : List ℕ) (la : Laid g) where
-  pub arc-count : length (netOf g .arcs) ≡ getD g countAt 0
-  arc-count = length-arcsFrom g 0 (getD g countAt 0)
-
   pub sizes : (1 ≤ getD g nodesAt 0) × (getD g nodesAt 0 ≤ 16) × (getD g lmaxAt 0 ≤ 15) × (getD g countAt 0 ≤ 240)
-  sizes = omega (arith, la .accepted .sizes .nodes, la .accepted .sizes .lengths, la .accepted .sizes .arcs, arc-count)
+  sizes = omega (arith, la .accepted .sizes .nodes, la .accepted .sizes .lengths, la .accepted .sizes .arcs, arc-count g)
 
   pub arcs-fit : AllFit (netOf g .arcs)
   arcs-fit i j l a = omega (
@@ -114,9 +108,9 @@ module _ (g : List ℕ) (la : Laid g) where
       let l : length s ≡ size (length (netOf g .arcs)) =
       length-packed (size (length (netOf g .arcs))) (netBits (getD g nodesAt 0) (getD g lmaxAt 0) (netOf g .arcs)) in
       let b : s ≡ x ∷ y ∷ getD g countAt 0 ∷ pairBytes (netOf g .arcs) =
-      bytes-in-pairs (getD g nodesAt 0) (getD g lmaxAt 0) (netOf g .arcs) (sizes .1) (sizes .2) (omega (arith, sizes, arc-count)) arcs-fit
-      ∙ rw (ex, ey, arc-count) in
-      e ∙ ap (sets room 0) (sym b) ∙ sets-eq s room 0 (omega (arith, sizes, arc-count)) ∙ rw (zero-add (length s))
+      bytes-in-pairs (getD g nodesAt 0) (getD g lmaxAt 0) (netOf g .arcs) (sizes .1) (sizes .2) (omega (arith, sizes, arc-count g)) arcs-fit
+      ∙ rw (ex, ey, arc-count g) in
+      e ∙ ap (sets room 0) (sym b) ∙ sets-eq s room 0 (omega (arith, sizes, arc-count g)) ∙ rw (zero-add (length s))
 
 -- what was found is refused, or the room is short, or all is written
 module _ (net : Checked) (found : Found) (is : Finds net found) (room : List ℕ) where
@@ -130,7 +124,7 @@ module _ (net : Checked) (found : Found) (is : Finds net found) (room : List ℕ
 
   module _ (none : found .refused ≡ 0) (m : ℕ) (count : m ≡ getD (found .laid) countAt 0) where
     bytes-count : size m ≡ size (length (net .meant .arcs))
-    bytes-count = ap size (count ∙ sym (arc-count (found .laid) (is .laid none)))
+    bytes-count = ap size (count ∙ sym (arc-count (found .laid)))
         ∙ ap (λ (a : Net). size (length (a .arcs))) (is .meant none)
 
     pub packs-short : length room < size m → PackPromise net room 13 room

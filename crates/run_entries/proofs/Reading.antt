@@ -4,7 +4,7 @@ use mathlib.Core.Logic.{_≢_}
 use mathlib.Core.Bool.{Bool, true, false, cond}
 use mathlib.Core.Option.{Option, none, some}
 use mathlib.Core.List.{List}
-use Prim.Native.Nat.{ℕ, zero, suc, _+_, _-_, _≤_, _<_}
+use Prim.Native.Nat.{ℕ, zero, suc, _+_, _-_, _<_}
 use native.Mathlib.Omega.{arith}
 use native.Mathlib.Numerals.{add-one}
 use lib.Dec.{ltb, eqb}
@@ -40,14 +40,6 @@ stopped-next st k c r b eb ec er =
     subst (λ (n : ℕ). r ≡ stoppedTo st n) (sym (add-one k))
     (er ∙ ap (λ (t : Bool). cond t 1 0 + c) (eb ∙ ap (λ (n : ℕ). isStopped (st n)) (add-one k))
     ∙ ap (λ (x : ℕ). cond (isStopped (st (suc k))) 1 0 + x) ec)
-
-pub stopped-le : (st : State) (k : ℕ) → stoppedTo st k ≤ k
-stopped-le st zero = omega arith
-stopped-le st (suc k) = go (isStopped (st (suc k))) (stopped-le st k)
-  where
-    go : (b : Bool) → stoppedTo st k ≤ k → cond b 1 0 + stoppedTo st k ≤ suc k
-    go true ih = omega arith
-    go false ih = omega arith
 
 -- an entry by its mark
 module _ (f : Part) (y : ℕ) (lt : y < tableSize) (marks : Marks f) (k : ℕ) (is : k ≡ f (marksAt + y)) where

@@ -97,7 +97,8 @@ of-bytes s =
     let ar = arcsRows (nodeCount s) (lmax s) [] (arcs s 0 (count s)) in
     each-told ofBytes (byteRows s)
     (refl next refl next refl next refl next refl next
-    each-both ofBytes ar (paddingRows s) (each-arcs ofBytes (refl next refl next refl next refl next tt) (nodeCount s) (lmax s) [] (arcs s 0 (count s)))
+    each-both ofBytes ar (paddingRows s)
+    (each-arcs ofBytes (refl next refl next refl next refl next tt) (nodeCount s) (lmax s) [] (arcs s 0 (count s)))
     (refl next tt))
 
 of-list : (n lmax : ℕ) (ar : List Arc) → NoneOr ofList (fromList n lmax ar .refused)

@@ -1,31 +1,28 @@
 -- Requirement 2 holds.
 use mathlib.Core.Path.{_≡_, refl, sym, ap, ap₂, subst, _∙_}
-use mathlib.Core.Logic.{_⊎_, inl, inr, ⊎-elim, _≢_}
-use mathlib.Core.Bool.{Bool, true, false, true≢false}
+use mathlib.Core.Logic.{_≢_}
 use mathlib.Core.Option.{Option, none, some}
 use mathlib.Core.List.{List, [], _∷_, _++_, map-append}
-use Prim.Native.Nat.{ℕ, zero, suc, _+_, _≤_, _<_}
+use Prim.Native.Nat.{ℕ, suc, _+_, _≤_, _<_}
 use native.Mathlib.Omega.{arith}
 use lib.ListN.{length, take, length-map}
-use Rattle.method.specs.If.{if_then_else_}
 use Rattle.method.specs.Network.{Arc, Net, IsNode, Accepted}
 use Rattle.method.specs.Rules.{Filled, Phase, stopped}
-use Rattle.method.specs.Steps.{State, Step, steps, byteStep, counts, counted}
-use Rattle.method.specs.Entries.{Entry, unknown, nodes, entry, unreachable, known, find, said, table, Stopped, hasStopped}
+use Rattle.method.specs.Steps.{Step, steps, byteStep, run, counts, counted}
+use Rattle.method.specs.Entries.{Entry, unknown, nodes, entry, unreachable, known, find, said, table, Stopped, stoppedTo}
 use Rattle.method.specs.Laws.{Leads, arrived, hop}
 use Rattle.method.proofs.Proved.{laws as method-laws}
 use Rattle.method.proofs.Always.{run-lawful}
 use Rattle.method.proofs.Said.{unreachable-no-chain}
+use Rattle.bits.specs.Bits.{Bytes}
 use Rattle.bits.proofs.Bytes.{length-packed}
 use Rattle.refusal.proofs.Rows.{else-zero, else-both}
 use Rattle.network.specs.Bytes.{size, netBits, bytesOf}
 use Rattle.network.specs.Checked.{Checked, IsAccepted, fromBytes, fromList}
 use Rattle.method.specs.Room.{begins}
-use Rattle.method.proofs.Numbers.{last-or-before}
 use Rattle.method.proofs.Room.{written, begins-read}
 use Rattle.network.proofs.Laws.{checks}
-use Rattle.run_entries.proofs.Reading.{stopped-le}
-use Rattle.method.specs.Entries.{isStopped, stoppedTo}
+use Rattle.method.proofs.Stopping.{stopped-count, all-stopped, one-working}
 use Rattle.table.specs.File.{one}
 use Rattle.table.specs.Reader.{entryRead}
 use Rattle.table.specs.Laws.{Started}
@@ -38,28 +35,7 @@ use Rattle.call.specs.Calls.{nodesOf, stateAfter, entryAfter, countsOf, stopped
 use Rattle.call.specs.Calls.{nodesPassed, routeRefusal, routeRoom, fileAfter, writeRefusal, writeRoom}
 use Rattle.call.specs.Calls.{packRefusal, packRoom}
 use Rattle.zaqfinell.specs.Requirement2.{IsSo, Followed, RightTables, Requirement2}
-use Rattle.zaqfinell.proofs.Ending.{at-end, all-or-one, ends}
 use Rattle.zaqfinell.proofs.Enough.{write-clear, run-clear, entry-clear, route-clear, pack-clear, table-fits}
-
--- where as many have stopped as there are, each has
-all-stopped : (st : State) (k : ℕ) → stoppedTo st k ≡ k → (j : ℕ) → IsNode k j → isStopped (st j) ≡ true
-all-stopped st zero e j at = absurd (omega arith)
-all-stopped st (suc k) e j at = go (isStopped (st (suc k))) refl (last-or-before k j at) (λ f. all-stopped st k f j)
-  where
-    go : (t : Bool) → isStopped (st (suc k)) ≡ t → (j ≡ suc k) ⊎ IsNode k j → (stoppedTo st k ≡ k → IsNode k j → isStopped (st j) ≡ true)
-        → isStopped (st j) ≡ true
-    go true is (inl f) rec = ap (λ (m : ℕ). isStopped (st m)) f ∙ is
-    go true is (inr there) rec =
-        let sum : 1 + stoppedTo st k ≡ suc k = ap (λ (t : Bool). (if t then 1 else 0) + stoppedTo st k) (sym is) ∙ e in
-        rec (omega arith) there
-    go false is w rec =
-        let sum : 0 + stoppedTo st k ≡ suc k = ap (λ (t : Bool). (if t then 1 else 0) + stoppedTo st k) (sym is) ∙ e in
-        let le = stopped-le st k in
-        absurd (omega arith)
-
--- where fewer have, one has not
-one-working : (st : State) (k : ℕ) → stoppedTo st k < k → (j : ℕ) × IsNode k j × (isStopped (st j) ≡ false)
-one-working st k lt = ⊎-elim (λ e. absurd (omega arith)) (λ w. w) (all-or-one st k)
 
 -- an entry that leads on is known
 abbrev Known : Net → List Step → ℕ → ℕ → Type 0
@@ -102,7 +78,7 @@ module _ (net : Checked) (accepted : IsAccepted net) (fit : Accepted (net .meant
   filled : (bs : List ℕ) → stoppedOf net bs ≡ nodesOf net → (i y : ℕ) → IsNode (nodesOf net) i
       → Stopped (net .meant) (steps bs) i × (entryAfter net bs i y ≢ unknown)
   filled bs all i y at =
-      let stop = at-end _ (all-stopped (stateAfter net bs) (nodesOf net) all i at) in
+      let stop = all-stopped (stateAfter net bs) (nodesOf net) all i at in
       (stop, not-unknown bs i y stop)
 
   -- one step more
@@ -111,12 +87,22 @@ module _ (net : Checked) (accepted : IsAccepted net) (fit : Accepted (net .meant
   progress bs lt =
       let j = one-working (stateAfter net bs) (nodesOf net) lt in
       let s = method-laws (net .meant) .e-some-step (fit .sizes) (fit .valid) (fit .positive) (steps bs) (j .0) (j .1)
-      (λ st. true≢false (sym (ap hasStopped st) ∙ j .2)) in (
+      (j .2) in (
         s .0,
         s .1,
         ap (λ (l : List Step). counts (net .meant) l .taken) (map-append byteStep bs (s .0 ∷ []))
             ∙ ap (λ c. c .taken) (method-laws (net .meant) .g-each (steps bs) (byteStep (s .0)))
             ∙ ap (λ k. counted k (countsOf net bs) .taken) (s .2),
+      )
+
+  -- to the end
+  ends : (bs : List ℕ) → (cs : List ℕ) × Bytes cs × (stoppedOf net (bs ++ cs) ≡ nodesOf net)
+  ends bs =
+      let r = method-laws (net .meant) .e-ends (fit .sizes) (fit .valid) (fit .positive) (steps bs) in (
+        r .0,
+        record { each = λ k. omega (arith, r .1 k) },
+        ap (λ (ds : List Step). stoppedTo (run (net .meant) ds) (nodesOf net)) (map-append byteStep bs (r .0))
+            ∙ stopped-count (run (net .meant) (steps bs ++ steps (r .0))) (nodesOf net) (r .2),
       )
 
   -- where an entry is known the nodes passed are the route
@@ -166,7 +152,7 @@ module _ (net : Checked) (accepted : IsAccepted net) (fit : Accepted (net .meant
         exactly = λ bs i y stop. method-laws (net .meant) .d-unreachable (fit .valid) (steps bs) i stop y;
         filled = filled;
         progress = progress;
-        ends = ends net fit;
+        ends = ends;
         way = way;
         route-room = route-room;
         written = file-room;

@@ -5,6 +5,7 @@ use Prim.Native.Nat.{ℕ, _≤_}
 use native.Mathlib.Omega.{arith}
 use Rattle.method.specs.Network.{IsNode, Accepted}
 use Rattle.method.specs.Steps.{steps}
+use Rattle.method.specs.Bounds.{mostSent}
 use Rattle.method.proofs.Proved.{laws as method-laws}
 use Rattle.method.proofs.Tight.{at-most-243}
 use Rattle.method.proofs.Reached.{line-sent}
@@ -13,13 +14,13 @@ use Rattle.network.specs.ArcList.{headerListRows, listRows}
 use Rattle.network.specs.Checked.{Checked, IsAccepted, fromBytes, fromList}
 use Rattle.network.proofs.Laws.{checks}
 use Rattle.call.specs.Calls.{nodesOf}
-use Rattle.zaqfinell.specs.SentLists.{sentBy, sentBound, FewSent, line, SentLists}
+use Rattle.zaqfinell.specs.SentLists.{sentBy, FewSent, line, SentLists}
 
 fit-by : (net : Checked) → Accepted (net .meant) → FewSent net
 fit-by net fit =
     record { sent = sent; at-most-243 = λ bs i at. omega (arith, sent bs i at, at-most-243 (net .meant) (fit .sizes)) }
   where
-    sent : (bs : List ℕ) (i : ℕ) → IsNode (nodesOf net) i → sentBy net bs i ≤ sentBound net
+    sent : (bs : List ℕ) (i : ℕ) → IsNode (nodesOf net) i → sentBy net bs i ≤ mostSent (net .meant)
     sent bs i at = method-laws (net .meant) .l-sent (fit .valid) (steps bs) i at
 
 line-accepted : IsAccepted line

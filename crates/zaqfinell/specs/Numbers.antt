@@ -25,7 +25,7 @@ NoneOr numbers N = Among N (0 ∷ numbers)
 
 -- of a network whose own refusals are among `own`: after them only 11, 12 and 13
 pub record NumbersOf (own : List ℕ) (net : Checked) : Type 0 where
-  -- zaq_check_network, zaq_check_arcs
+  -- zaq_check_network, zaq_check_arcs; and zaq_most_taken, zaq_most_taken_arcs, which refuse nothing more
   pub check : NoneOr own (net .refused)
   -- zaq_write_table, zaq_write_table_arcs
   pub write : (bs : List ℕ) (i wide : ℕ) → NoneOr (own ++ (11 ∷ 12 ∷ 13 ∷ [])) (writeRefusal net bs i wide)

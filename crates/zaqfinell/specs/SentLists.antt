@@ -2,10 +2,11 @@
 -- calls take; that no call has a refusal for it is in `Numbers`.
 use mathlib.Core.Path.{_≡_}
 use mathlib.Core.List.{List, [], _∷_}
-use Prim.Native.Nat.{ℕ, zero, suc, _+_, _-_, _*_, _≤_}
+use Prim.Native.Nat.{ℕ, zero, suc, _≤_}
 use lib.ListN.{length}
 use Rattle.method.specs.Network.{Arc, IsNode}
 use Rattle.method.specs.Steps.{sents}
+use Rattle.method.specs.Bounds.{mostSent}
 use Rattle.network.specs.Refusal.{asArc}
 use Rattle.network.specs.Checked.{Checked, IsAccepted, fromBytes, fromList}
 use Rattle.call.specs.Calls.{nodesOf, stateAfter}
@@ -14,13 +15,9 @@ use Rattle.call.specs.Calls.{nodesOf, stateAfter}
 abbrev pub sentBy : Checked → List ℕ → ℕ → ℕ
 sentBy net bs i = length (sents (stateAfter net bs) i)
 
--- the bound for every node of the house
-abbrev pub sentBound : Checked → ℕ
-sentBound net = (nodesOf net - 1) * net .meant .lmax + nodesOf net + 2
-
 -- the sent lists of an accepted network, after any steps
 pub record FewSent (net : Checked) : Type 0 where
-  pub sent : (bs : List ℕ) (i : ℕ) → IsNode (nodesOf net) i → sentBy net bs i ≤ sentBound net
+  pub sent : (bs : List ℕ) (i : ℕ) → IsNode (nodesOf net) i → sentBy net bs i ≤ mostSent (net .meant)
   -- so no list ever has a 258th message
   pub at-most-243 : (bs : List ℕ) (i : ℕ) → IsNode (nodesOf net) i → sentBy net bs i ≤ 243
 
@@ -43,4 +40,4 @@ pub record SentLists : Type 0 where
   pub list : (n lmax : ℕ) (ar : List Arc) → IsAccepted (fromList n lmax ar) → FewSent (fromList n lmax ar)
   -- the bound is reached: 9 messages where n is 3 and LMAX is 2
   pub line-accepted : IsAccepted line
-  pub reached : sentBy line lineSteps 1 ≡ sentBound line
+  pub reached : sentBy line lineSteps 1 ≡ mostSent (line .meant)

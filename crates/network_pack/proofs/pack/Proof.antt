@@ -1,16 +1,22 @@
 -- `pack`: the room is left as it was where the network is refused or the room is short.
-use mathlib.Core.Path.{refl, sym, ap, _∙_}
+use mathlib.Core.Path.{_≡_, refl, sym, ap, _∙_}
 use native.Mathlib.Omega.{arith}
+use lib.ListN.{length, getD}
 use borrow.Author.Needs.{needs}
 use Rattle.network.specs.Bytes.{size}
-use Rattle.network.specs.Layout.{Laid}
-use Rattle.network_pack.proofs.Written.{sizes, arc-count, packs-nothing, packs-short, packs-all}
+use Rattle.network.specs.Layout.{countAt, netOf, Laid}
+use Rattle.network.proofs.LaidOut.{arc-count}
+use Rattle.network_pack.proofs.Written.{sizes, packs-nothing, packs-short, packs-all}
 use Rattle.network_pack.proofs.pack.Statement.{statement}
 use Rattle.network_pack.proofs.pack.Tie as tie
 
 -- the network is laid out
 laid : (c : tie.Else1) → Laid (c .before .before .args .t1 .laid)
 laid c = c .before .before .pre (c .if1 .left)
+
+-- with so many arcs
+count : (c : tie.Else1) → length (netOf (c .before .before .args .t1 .laid) .arcs) ≡ getD (c .before .before .args .t1 .laid) countAt 0
+count c = arc-count (c .before .before .args .t1 .laid)
 
 returns : tie.Need-returns
 returns c net is = packs-nothing net (c .before .before .args .t1) is _ (c .if1 .taken)
@@ -31,7 +37,7 @@ put-bytes-requires : tie.Need-put-bytes-requires
 put-bytes-requires c κs =
     let else2 = c .before .before .before in
     let la = laid (else2 .before .before .before) in
-    (la, omega (arith, arc-count _ la, else2 .before .bytes-of .ensures, else2 .if2 .left))
+    (la, omega (arith, count (else2 .before .before .before), else2 .before .bytes-of .ensures, else2 .if2 .left))
 
 cast-result : tie.Need-cast-result
 cast-result c =
@@ -55,7 +61,7 @@ returns-3 c net is =
     let else = bytes .before .before in
     packs-all net (else .before .before .args .t1) is _ (else .if1 .left) _ refl _ _
     (omega (arith, bytes .bytes-of .ensures, else2 .if2 .left))
-    (bytes .bytes-of .ensures ∙ ap size (sym (arc-count _ (laid else)))) (c .before .before .put-bytes .ensures)
+    (bytes .bytes-of .ensures ∙ ap size (sym (count else))) (c .before .before .put-bytes .ensures)
 
 pub pack-spec : {M : Type 1} → statement M
 pack-spec =

@@ -2,7 +2,8 @@
 use mathlib.Core.Path.{_∙_, ap}
 use lib.ListN.{length, length-set}
 use lib.Seq.{length-sets}
-use Rattle.network_pack.proofs.Written.{arc-count, sizes, arcs-fit, whole-written}
+use Rattle.network.proofs.LaidOut.{arc-count}
+use Rattle.network_pack.proofs.Written.{sizes, arcs-fit, whole-written}
 use native.Mathlib.Omega.{arith}
 use borrow.Author.Needs.{needs}
 use Rattle.network_pack.proofs.put_bytes.Statement.{statement}
@@ -40,9 +41,10 @@ cast-put-arcs c = let s = sizes _ (c .before .before .before .before .before .be
 
 put-arcs-requires : tie.Need-put-arcs-requires
 put-arcs-requires c κs =
-    let la = c .before .before .before .before .before .before .before .pre .0 in
+    let start = c .before .before .before .before .before .before .before in
+    let la = start .pre .0 in
     let s = sizes _ la in
-    (omega arith, arcs-fit _ la, simp length-set (omega (arith, arc-count _ la)))
+    (omega arith, arcs-fit _ la, simp length-set (omega (arith, arc-count (start .args .laid .now))))
 
 same-length : tie.Need-same-length
 same-length c = ap length (c .before .before .put-arcs .ensures) ∙ simp (length-sets, length-set)

@@ -1,5 +1,6 @@
 -- `count_stopped`: node by node.
-use Rattle.run_entries.proofs.Reading.{stopped-next, stopped-le}
+use Rattle.method.proofs.Stopping.{stopped-le}
+use Rattle.run_entries.proofs.Reading.{stopped-next}
 use Rattle.method.specs.Entries.{stoppedTo}
 use Rattle.run_cells.specs.Part.{cells, stateOf}
 use mathlib.Core.Path.{_≡_, _∙_, ap, refl}
