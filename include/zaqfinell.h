@@ -154,10 +154,9 @@ uint32_t zaq_run(
     const uint8_t *net, uint64_t net_len, const uint8_t *steps, uint64_t steps_len, uint64_t counts[4], uint16_t *entries,
     uint64_t entries_len);
 
-/* How long a run can get: in any order of steps, zaq_run never counts more than zaq_most as taken. It is n + arcs * (n * LMAX + n + 1), 1 to
- * 61696. Some houses take as many: a one-way ring of arcs of length 1, where LMAX is 1. A recorder with room for zaq_most steps has room for
- * every step that is taken, and these alone lead to the same tables. Idle and unknown steps are not counted: there is no end to them.
- * Refusals: the network's.
+/* How long a run can get: in any order, no more than zaq_most steps are taken. That is n + arcs * (n * LMAX + n + 1), 61696 at most, and
+ * some houses take as many: one-way rings with LMAX 1. A recorder that keeps only steps that are taken needs room for no more than that,
+ * and what it has kept leads to the same tables. Idle and unknown steps have no bound. Refusals: the network's.
  */
 uint32_t zaq_most_taken(const uint8_t *net, uint64_t net_len);
 

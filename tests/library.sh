@@ -20,7 +20,7 @@ only_names() { awk 'NF >= 2 { print $NF }' | sort -u; }
 calls=$(calls_of_header | sort)
 defined=$(read_names -g --defined-only | only_names)
 needed=$(read_names -u | only_names)
-verdict "the header has $(wc -w <<< "$calls") calls, not 13" test "$(wc -w <<< "$calls")" = 13
+verdict "the header has $(wc -w <<< "$calls") calls, not 15" test "$(wc -w <<< "$calls")" = 15
 verdict "no call is declared twice" test "$(uniq -d <<< "$calls")" = ''
 for name in $calls; do
     verdict "the library does not define $name" grep -qx "$name" <<< "$defined"

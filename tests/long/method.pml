@@ -187,13 +187,23 @@ end:	do
 	od
 }
 
-/* where no step is left, every node must have stopped: nobody waits for ever */
+/* where no step is left, every node must have stopped: nobody waits for ever; and no more steps were taken, starts and deliveries, than
+ * document 02's K8 says */
 proctype Last() {
 end:	timeout;
 	d_step {
 		for (k : 1 .. N) {
 			assert(started[k] && stopped[k])
 		}
+		sum = N;
+		x = N;
+		for (k : 0 .. ARCS - 1) {
+			if
+			:: tail[k] != 0 -> sum = sum + delivered[k]; x = x + N * LMAX + N + 1
+			:: else
+			fi
+		}
+		assert(sum <= x);
 		k = 0
 	}
 }

@@ -1,9 +1,20 @@
 // How many steps of a run can be taken, in any order: the number by which a bench crew sizes its step recorder.
+ghost use mathlib.Core.Path.{_≡_};
+ghost use Prim.Native.Nat.{_+_, _*_};
 ghost use Rattle.network.specs.Found.{Consistent};
+ghost use Rattle.call.specs.Answers.{values};
 ghost use Rattle.call.specs.Kept.{Bounds};
 use network::Found;
 
-// The refusal of the network that was found; or n starts and, over every arc, n × LMAX + n + 1 messages.
+// n starts and, over every arc, n × LMAX + n + 1 messages, as one answer. Three bytes never overflow it.
+fn starts_and_messages(n: u8, lmax: u8, arcs: u8) -> u32
+    ensures { λ r. ⌜ r ≡ values (n + arcs * (n * lmax + n + 1)) 0 ⌝ }
+{
+    let nodes = n as u32;
+    256 * (nodes + arcs as u32 * (nodes * lmax as u32 + nodes + 1))
+}
+
+// The refusal of the network that was found, or the most steps that can be taken.
 pub fn most_taken(found: Found) -> u32
     requires { ⌜ Consistent found ⌝ }
     ensures { λ r. ⌜ Bounds found r ⌝ }
@@ -11,8 +22,9 @@ pub fn most_taken(found: Found) -> u32
     if found.refused != 0 {
         return found.refused;
     }
-    let n = found.laid[network::NODES] as u32;
-    let lmax = found.laid[network::LMAX] as u32;
-    let arcs = found.laid[network::COUNT] as u32;
-    256 * (n + arcs * (n * lmax + n + 1))
+    starts_and_messages(
+        found.laid[network::NODES],
+        found.laid[network::LMAX],
+        found.laid[network::COUNT],
+    )
 }

@@ -112,7 +112,7 @@ pub taken-within : (net : Net) → Sizes net → Valid net → (bs : List Step) 
 taken-within net small va bs = omega (arith, taken-few net va bs, sharp-le net small)
 
 -- in the largest house: 257 messages over each of 240 arcs
-pub few-handed : (net : Net) → Sizes net → net .n * net .lmax + net .n + 1 ≤ 257
+few-handed : (net : Net) → Sizes net → net .n * net .lmax + net .n + 1 ≤ 257
 few-handed net small =
     let product : net .n * net .lmax ≤ 16 * 15 = mul-le-mul (small .nodes .1) (small .lengths .1) in
     omega (arith, small .nodes .1)
