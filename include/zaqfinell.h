@@ -154,9 +154,10 @@ uint32_t zaq_run(
     const uint8_t *net, uint64_t net_len, const uint8_t *steps, uint64_t steps_len, uint64_t counts[4], uint16_t *entries,
     uint64_t entries_len);
 
-/* How long a run can get: in any order, no more than zaq_most steps are taken. That is n + arcs * (n * LMAX + n + 1), 61696 at most, and
- * some houses take as many: one-way rings with LMAX 1. A recorder that keeps only steps that are taken needs room for no more than that,
- * and what it has kept leads to the same tables. Idle and unknown steps have no bound. Refusals: the network's.
+/* How long a run can get: in any order, no more than zaq_most steps are taken. That is n + arcs * (n * LMAX + n + 1), never more than
+ * 61696. A one-way ring with LMAX 1 can take as many; from LMAX 2 on no house with an arc does. A recorder that keeps only steps that are
+ * taken needs room for no more than that, and what it has kept leads to the same tables. Idle and unknown steps have no bound.
+ * Refusals: the network's.
  */
 uint32_t zaq_most_taken(const uint8_t *net, uint64_t net_len);
 

@@ -2,10 +2,10 @@
 # to P12, the worked run) and, for the sample house, from adding up its lengths by hand.
 
 checks() {
-    says 'examples/house.txt is accepted: 6 devices, 13 arcs, LMAX 9; a run takes at most 799 steps' check examples/house.txt
-    says "$work/q is accepted: 3 devices, 4 arcs, LMAX 4; a run takes at most 67 steps" check "$work/q"
-    says 'standard input is accepted: 3 devices, 4 arcs, LMAX 4; a run takes at most 67 steps' check - < "$work/q"
-    says "$work/two is accepted: 2 devices, 1 arc, LMAX 1; a run takes at most 7 steps" check "$work/two" --net
+    says 'examples/house.txt is accepted: 6 devices, 13 arcs, LMAX 9; at most 799 steps of a run are taken' check examples/house.txt
+    says "$work/q is accepted: 3 devices, 4 arcs, LMAX 4; at most 67 steps of a run are taken" check "$work/q"
+    says 'standard input is accepted: 3 devices, 4 arcs, LMAX 4; at most 67 steps of a run are taken' check - < "$work/q"
+    says "$work/two is accepted: 2 devices, 1 arc, LMAX 1; at most 7 steps of a run are taken" check "$work/two" --net
     check_refused 1 1240 'network bytes under 3, or not the number of bytes that its arcs take'
     check_refused 1 1240040111210222 'network bytes under 3, or not the number of bytes that its arcs take'
     check_refused 2 224004011121022204 'network version not 1, or the fourth field not 0'

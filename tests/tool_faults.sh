@@ -74,7 +74,7 @@ right_words() {
     # the example that zaq help house shows is a house: three devices, a link both ways and one way
     ask help house
     sed -n 's/^    //p' "$work/out" | grep -vE '^ ' > "$work/example.txt"
-    says "$work/example.txt is accepted: 3 devices, 3 arcs, LMAX 9; a run takes at most 96 steps" check "$work/example.txt"
+    says "$work/example.txt is accepted: 3 devices, 3 arcs, LMAX 9; at most 96 steps of a run are taken" check "$work/example.txt"
     # options may stand anywhere; after -- every word is a word
     cp "$work/q" "$work/-x"
     cp "$work/q" "$work/--json"
@@ -82,11 +82,10 @@ right_words() {
     cp "$work/out" "$work/help"
     ask routes "$work/q" 1 --json
     verdict 'an option may come last' cmp -s "$work/out" "$work/help"
-    verdict 'after -- a word is no option' \
-        test "$(cd "$work" && "${zaq[@]}" check -- -x)" = '-x is accepted: 3 devices, 4 arcs, LMAX 4; a run takes at most 67 steps'
-    verdict 'after -- not even a known one' \
-        test "$(cd "$work" && "${zaq[@]}" check -- --json)" = '--json is accepted: 3 devices, 4 arcs, LMAX 4; a run takes at most 67 steps'
-    says 'standard input is accepted: 3 devices, 4 arcs, LMAX 4; a run takes at most 67 steps' check -- - < "$work/q"
+    local of_q='is accepted: 3 devices, 4 arcs, LMAX 4; at most 67 steps of a run are taken'
+    verdict 'after -- a word is no option' test "$(cd "$work" && "${zaq[@]}" check -- -x)" = "-x $of_q"
+    verdict 'after -- not even a known one' test "$(cd "$work" && "${zaq[@]}" check -- --json)" = "--json $of_q"
+    says "standard input $of_q" check -- - < "$work/q"
     ask help
     verdict 'zaq help says what - is after --' grep -qF 'After -- no word is an option, but - is still standard input.' "$work/out"
     verdict 'zaq.1 says what - is after --' grep -qF 'no word after it is an option, but' tools/zaq/zaq.1

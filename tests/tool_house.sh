@@ -34,7 +34,7 @@ good_texts() {
     ask routes "$work/house.txt"
     verdict 'a name of 255 bytes is kept' test "$(cat "$work/out")" = "from 1 ($name): there is no other device"
     packs 10f000 "lmax 15\ndevice 1 $(printf 'ü%.0s' {1..127})\n" 'a name of 127 characters, 254 bytes'
-    says "$work/house.txt is accepted: 1 device, 0 arcs, LMAX 15; a run takes at most 1 step" check "$work/house.txt"
+    says "$work/house.txt is accepted: 1 device, 0 arcs, LMAX 15; at most 1 step of a run is taken" check "$work/house.txt"
 }
 
 mistakes_of_a_line() {
@@ -123,7 +123,7 @@ mistakes_of_a_comment() {
     done
     # what is no control byte of network bytes may stand there
     packs 101000 'lmax 1 # \t \r \x7f \xc2\x85\ndevice 1' 'a comment with other control characters'
-    says "$work/house.txt is accepted: 1 device, 0 arcs, LMAX 1; a run takes at most 1 step" check "$work/house.txt"
+    says "$work/house.txt is accepted: 1 device, 0 arcs, LMAX 1; at most 1 step of a run is taken" check "$work/house.txt"
     # the column of another mistake after a byte order mark
     mistaken '\xef\xbb\xbflmax 16\ndevice 1' '1:6: refused 3: LMAX outside 1 to 15 (LMAX 16), expected LMAX, a number from 1 to 15'
 }
@@ -154,7 +154,7 @@ many_mistakes() {
     mistaken 'lmax 4\ndevice 1\n\xc2\x9b31m\xff%%s' "3:1: found '\\xc2\\x9b31m\\xff%s', expected lmax, device or link, or a comment after #"
     # a full house has every arc: one more is one too many, and it is there already
     full_text > "$work/full.txt"
-    says "$work/full.txt is accepted: 16 devices, 240 arcs, LMAX 15; a run takes at most 61696 steps" check "$work/full.txt"
+    says "$work/full.txt is accepted: 16 devices, 240 arcs, LMAX 15; at most 61696 steps of a run are taken" check "$work/full.txt"
     echo 'link 2 -> 1 length 1' >> "$work/full.txt"
     bad 1 'full.txt:138:6: refused 4: more than 240 arcs (arc 241, from 2 to 1, length 1), expected each arc once' check "$work/full.txt"
 }

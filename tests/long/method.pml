@@ -24,7 +24,7 @@ short item[ARCS + 1]; /* the current item, a length or INFINITE */
 #define INFINITE 1000
 
 /* used within one step only, so no part of a state */
-hidden short x, sum;
+hidden short x, sum, steps, most, sharp;
 hidden byte k, m, a, least, i_, y_;
 hidden byte was[(N + 1) * (N + 1)], had[(N + 1) * (N + 1)];
 
@@ -188,22 +188,26 @@ end:	do
 }
 
 /* where no step is left, every node must have stopped: nobody waits for ever; and no more steps were taken, starts and deliveries, than
- * document 02's K8 says */
+ * document 02's K8 says, nor more than with the room of a sent list in the place of its bracket */
 proctype Last() {
 end:	timeout;
 	d_step {
 		for (k : 1 .. N) {
 			assert(started[k] && stopped[k])
 		}
-		sum = N;
-		x = N;
+		steps = N;
+		most = N;
+		sharp = N;
 		for (k : 0 .. ARCS - 1) {
 			if
-			:: tail[k] != 0 -> sum = sum + delivered[k]; x = x + N * LMAX + N + 1
+			:: tail[k] != 0 ->
+				steps = steps + delivered[k];
+				most = most + N * LMAX + N + 1;
+				sharp = sharp + (N - 1) * LMAX + N + 2
 			:: else
 			fi
 		}
-		assert(sum <= x);
+		assert(steps <= most && steps <= sharp);
 		k = 0
 	}
 }

@@ -83,9 +83,9 @@ static const struct {
 } tests[] = {
     {"the list of refusals", test_words, OTHERS},
     {"01's examples", test_examples, OTHERS},
+    {"how long a run can get", test_most_taken, OTHERS},
     {"networks", test_networks, OTHERS},
     {"runs", test_runs, OTHERS},
-    {"how long a run can get", test_most_taken, OTHERS},
     {"entries and routes", test_entries, OTHERS},
     {"arc lists", test_arcs, OTHERS},
     {"rooms of every size", test_rooms, OTHERS},

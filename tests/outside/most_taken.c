@@ -100,8 +100,8 @@ static void nothing_is_left(void)
     check(counted(more, count + 256, counts, entries) == run.taken && counts[3] == net.n, "the run is at its end");
 }
 
-/* A one-way ring with LMAX 1, the arcs from any place on: in turn it takes as many steps as a run can. */
-static void rings(void)
+/* A one-way ring with LMAX 1, the arcs from any place on: in turn, and in other orders, it takes as many steps as a run can. */
+static void rings(unsigned kind)
 {
     for (unsigned n = 2; n <= MOST_NODES; n++)
         for (unsigned from = 0; from < n; from++) {
@@ -111,7 +111,7 @@ static void rings(void)
                 net.arc[k] = (struct ref_arc){tail, tail % n + 1, 1};
             }
             begin_run();
-            in_turn();
+            in_any_order(kind);
             check(within_bound("a ring") == n + n * (n * 1 + n + 1), "a one-way ring with LMAX 1 takes as many steps as a run can");
             nothing_is_left();
         }
@@ -123,7 +123,8 @@ void test_most_taken(void)
     begin_run();
     in_turn();
     check(within_bound("a house of one") == 1, "a house of one takes its start and nothing else");
-    rings();
+    for (unsigned kind = 0; kind < STEP_KINDS; kind++)
+        rings(kind);
     for (unsigned round = 0; round < rounds(3000); round++) {
         random_network(&net);
         begin_run();
@@ -135,5 +136,5 @@ void test_most_taken(void)
         random_network(&net);
     while (net.arcs != MOST_ARCS || net.lmax != 15);
     begin_run();
-    check(same_most("the largest house") == 61696, "61696 steps in the largest house");
+    check(same_most("the largest house") == 61696, "the largest house's number is 61696");
 }

@@ -77,9 +77,9 @@ int check_command(const struct call *call)
         put_number(stdout, house.n, "device");
         fputs(", ", stdout);
         put_number(stdout, house.arcs_len, "arc");
-        printf(", LMAX %u; a run takes at most ", (unsigned)house.lmax);
+        printf(", LMAX %u; at most ", (unsigned)house.lmax);
         put_number(stdout, most, "step");
-        putchar('\n');
+        puts(most == 1 ? " of a run is taken" : " of a run are taken");
     }
     return DONE;
 }

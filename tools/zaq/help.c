@@ -9,9 +9,9 @@ static const char unpack_help[] =
     "text gives the same bytes.\n";
 static const char check_help[] =
     "Says whether the library accepts the house: how many devices and arcs it has,\n"
-    "and how many steps a run can take, or the refusal's number and words, and which\n"
-    "arc it is about. Every mistake of a text, up to ten, is told with its line and\n"
-    "column.\n";
+    "and how many steps of a run are taken at most, or the refusal's number and words\n"
+    "and which arc it is about. Every mistake of a text, up to ten, is told with its\n"
+    "line and column.\n";
 static const char routes_help[] =
     "Runs the house to its end and tells the distance and the whole way from each\n"
     "device to each other one, or from device FROM only, or from FROM to TO with the\n"

@@ -9,13 +9,13 @@ use lib.ListN.{getD}
 use Rattle.method.specs.Network.{Net, IsNode, Sizes, Valid}
 use Rattle.method.specs.Loop.{Loopless}
 use Rattle.method.specs.Rules.{Phase, unstarted, started, stopped, Node}
-use Rattle.method.specs.Steps.{Step, byteStep, steps, Kind, taken, counted, Counts, counts}
+use Rattle.method.specs.Steps.{Step, byteStep, steps, Kind, taken, step, run, counted, Counts, counts}
 use Rattle.method.specs.Bounds.{mostTakenSharp}
 use Rattle.method.specs.Entries.{nodes}
 use Rattle.method.proofs.Numbers.{last-or-before}
 use Rattle.method.proofs.Counted.{each}
 use Rattle.method.proofs.Taken.{taken-few}
-use Rattle.method.proofs.Progress.{some-step}
+use Rattle.method.proofs.Progress.{some-value, some-step}
 
 -- the nodes 1 to k have stopped
 abbrev pub AllStopped : (ℕ → Node) → ℕ → Type 0
@@ -65,7 +65,20 @@ module _ {A : Type 0} (nd : List A → ℕ → Node) (n : ℕ) (count : List A �
   pub ends : (bs : List A) → (cs : List A) × AllStopped (nd (bs ++ cs)) n
   ends bs = further (suc most) bs (omega arith)
 
--- a step byte
+-- a taken step is one more
+pub one-more : (net : Net) (bs : List Step) (b : Step) → step net (run net bs) b .kind ≡ taken
+    → counts net (bs ++ (b ∷ [])) .taken ≡ suc (counts net bs .taken)
+one-more net bs b e = ap (λ (c : Counts). c .taken) (each net bs b) ∙ ap (λ (k : Kind). counted k (counts net bs) .taken) e
+
+-- so it is with 01's runs
+pub runs-end : (net : Net) → Valid net → Loopless net → (bs : List Step) → (cs : List Step) × AllStopped (nodes net (bs ++ cs)) (net .n)
+runs-end net va loopless = ends (nodes net) (net .n) (λ bs. counts net bs .taken) (mostTakenSharp net) (taken-few net va) on
+  where
+    on : (bs : List Step) (i : ℕ) → IsNode (net .n) i → (nodes net bs i .phase ≡ stopped → ⊥)
+        → (b : Step) × (counts net (bs ++ (b ∷ [])) .taken ≡ suc (counts net bs .taken))
+    on bs i at ne = let s = some-value net va loopless bs i at ne in (s .0, one-more net bs (s .0) (s .1))
+
+-- and with their step bytes
 abbrev Byte : Type 0
 Byte = (b : ℕ) × (b ≤ 255)
 
@@ -77,10 +90,9 @@ numbers-low [] k = zero-le
 numbers-low (b ∷ cs) zero = b .1
 numbers-low (b ∷ cs) (suc k) = numbers-low cs k
 
--- so it is with 01's runs: from any steps on, some further step bytes bring all nodes to a stop
-pub runs-end : (net : Net) → Sizes net → Valid net → Loopless net → (bs : List Step)
+pub bytes-end : (net : Net) → Sizes net → Valid net → Loopless net → (bs : List Step)
     → (cs : List ℕ) × ((k : ℕ) → getD cs k 0 ≤ 255) × AllStopped (nodes net (bs ++ steps cs)) (net .n)
-runs-end net small va loopless bs =
+bytes-end net small va loopless bs =
     let r = ends (λ cs. nodes net (after cs)) (net .n) (λ cs. counts net (after cs) .taken) (mostTakenSharp net)
     (λ cs. taken-few net va (after cs)) on [] in
     (numbers (r .0), numbers-low (r .0), r .1)
@@ -99,9 +111,5 @@ runs-end net small va loopless bs =
         → (b : Byte) × (counts net (after (cs ++ (b ∷ []))) .taken ≡ suc (counts net (after cs) .taken))
     on cs i at ne =
         let s = some-step net small va loopless (after cs) i at ne in
-        let b : Byte = (s .0, s .1) in (
-          b,
-          ap (λ (ds : List Step). counts net ds .taken) (after-one cs b)
-              ∙ ap (λ (c : Counts). c .taken) (each net (after cs) (byteStep (s .0)))
-              ∙ ap (λ (k : Kind). counted k (counts net (after cs)) .taken) (s .2),
-        )
+        let b : Byte = (s .0, s .1) in
+        (b, ap (λ (ds : List Step). counts net ds .taken) (after-one cs b) ∙ one-more net (after cs) (byteStep (s .0)) (s .2))

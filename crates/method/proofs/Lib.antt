@@ -34,7 +34,7 @@ pub mod Handed
 pub mod Far
 pub mod Taken
 pub mod Ends
-pub mod Stopping
+pub mod StoppedCount
 pub mod Enough
 pub mod Proved
 pub mod Following

@@ -203,6 +203,15 @@ on net va loopless bs i at ne =
         ) in
         ap item (oldest-all (run net bs i .taken j) (sents (run net bs) j) q)
 
+pub some-value : (net : Net) → Valid net → Loopless net → (bs : List Step) (i : ℕ) → IsNode (net .n) i → (Stopped net bs i → ⊥)
+    → (b : Step) × (step net (run net bs) b .kind ≡ taken)
+some-value net va loopless bs i at ne = go (on net va loopless bs i at ne)
+  where
+    go : Sleeper (nodes net bs) (net .n) ⊎ Ready (undelivered net (run net bs)) (net .arcs)
+        → (b : Step) × (step net (run net bs) b .kind ≡ taken)
+    go (inl s) = (start (suc (s .0)), start-taken net (run net bs) (s .0) (s .1) (s .2))
+    go (inr r) = (deliver (suc (r .at)), deliver-taken net (run net bs) r)
+
 pub some-step : (net : Net) → Sizes net → Valid net → Loopless net → (bs : List Step) (i : ℕ) → IsNode (net .n) i → (Stopped net bs i → ⊥)
     → (b : ℕ) × (b ≤ 255) × (step net (run net bs) (byteStep b) .kind ≡ taken)
 some-step net small va loopless bs i at ne = go (on net va loopless bs i at ne)

@@ -17,7 +17,7 @@ use Rattle.method.proofs.Handed.{hands-over, others-same}
 use Rattle.method.proofs.Enough.{enough, same-choice}
 use Rattle.method.proofs.Tight.{sent-tight}
 use Rattle.method.proofs.Taken.{taken-few, taken-within}
-use Rattle.method.proofs.Ends.{runs-end}
+use Rattle.method.proofs.Ends.{bytes-end}
 
 pub laws : (net : Net) → Laws net
 laws net =
@@ -31,7 +31,7 @@ laws net =
       d-unreachable = λ va bs. stopped-unreachable net va (nodes net bs) (run-lawful net va bs);
       d-all-stopped = λ va bs. all-stopped net va (nodes net bs) (run-lawful net va bs);
       e-some-step = λ small va positive bs i at ne. some-step net small va (positive-loopless net positive) bs i at ne;
-      e-ends = λ small va positive bs. runs-end net small va (positive-loopless net positive) bs;
+      e-ends = λ small va positive bs. bytes-end net small va (positive-loopless net positive) bs;
       f-hops-lead = λ va positive bs i y d h e. hops-lead net va bs y positive i d h e;
       g-total = total net;
       g-each = each net;

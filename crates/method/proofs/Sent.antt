@@ -11,8 +11,9 @@ use borrow.Author.Tests.{eqb-true, eqb-false}
 use Rattle.method.specs.Network.{Arc}
 use Rattle.method.specs.Distance.{Chain}
 use Rattle.method.specs.Message.{Msg, label, len, end, Item, finite, infinite, lastLen, item, sendLen}
+use Rattle.method.specs.Rules.{Phase, unstarted, started, stopped}
 use Rattle.method.specs.Distinct.{Distinct}
-use Rattle.method.specs.Invariant.{labels, lengths, ends, Labelled, Complete, Good}
+use Rattle.method.specs.Invariant.{labels, lengths, ends, endsSent, Labelled, Complete, Good}
 
 pub parts : (s : List Msg) → length s ≡ length (labels s) + lengths s + ends s
 parts [] = refl
@@ -52,6 +53,12 @@ labels-distinct ar j [] g = tt
 labels-distinct ar j (label y ∷ s) g = (g .2, labels-distinct ar j s (g .0))
 labels-distinct ar j (len x ∷ s) g = labels-distinct ar j s (g .0)
 labels-distinct ar j (end ∷ s) g = labels-distinct ar j s (g .0)
+
+-- one end, when it has stopped
+pub ends-le : (ph : Phase) → endsSent ph ≤ 1
+ends-le unstarted = omega arith
+ends-le started = omega arith
+ends-le stopped = omega arith
 
 -- a finite item is the last length
 pub item-lastLen : (s : List Msg) (v : ℕ) → item s ≡ finite v → lastLen s ≡ v

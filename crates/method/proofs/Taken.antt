@@ -100,16 +100,15 @@ module _ (net : Net) (va : Valid net) where
   taken-few bs = omega (arith, taken-far fresh (fresh-ok net va) bs, come-few net va bs)
 
 -- (n − 1) × LMAX + n + 2 is no more than n × LMAX + n + 1, where LMAX is 1 or more
-pub sharp-le : (net : Net) → Sizes net → mostTakenSharp net ≤ mostTaken net
-sharp-le net small =
-    let one : 1 ≤ net .lmax = small .lengths .0 in
-    let row : net .n * net .lmax ≡ suc (net .n - 1) * net .lmax = ap (λ (k : ℕ). k * net .lmax) (omega (arith, small .nodes .0)) in
+pub sharp-le : (net : Net) → 1 ≤ net .n → 1 ≤ net .lmax → mostTakenSharp net ≤ mostTaken net
+sharp-le net some one =
+    let row : net .n * net .lmax ≡ suc (net .n - 1) * net .lmax = ap (λ (k : ℕ). k * net .lmax) (omega arith) in
     let less : mostSent net ≤ net .n * net .lmax + net .n + 1 = omega arith in
     let all = mul-le-mul-left (length (net .arcs)) less in
     omega arith
 
-pub taken-within : (net : Net) → Sizes net → Valid net → (bs : List Step) → counts net bs .taken ≤ mostTaken net
-taken-within net small va bs = omega (arith, taken-few net va bs, sharp-le net small)
+pub taken-within : (net : Net) → 1 ≤ net .n → 1 ≤ net .lmax → Valid net → (bs : List Step) → counts net bs .taken ≤ mostTaken net
+taken-within net some one va bs = omega (arith, taken-few net va bs, sharp-le net some one)
 
 -- in the largest house: 257 messages over each of 240 arcs
 few-handed : (net : Net) → Sizes net → net .n * net .lmax + net .n + 1 ≤ 257

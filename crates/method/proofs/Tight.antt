@@ -14,14 +14,14 @@ use Rattle.method.specs.Message.{Msg, label, len, end, finite, lastLen, 
 use Rattle.method.specs.Rules.{Filled, Node, Choice, rule₁}
 use Rattle.method.specs.Bounds.{mostSent}
 use Rattle.method.specs.Invariant.{Has, lengths, ends, endsSent, Ok, AtLeast, Spread}
-use Rattle.method.proofs.Sent.{Sending, sending, sendLen-last, parts}
+use Rattle.method.proofs.Sent.{Sending, sending, sendLen-last, parts, ends-le}
 use Rattle.method.proofs.Choosing.{Before, Chosen, rule₁-ok}
 use Rattle.method.proofs.Table.{targets-length}
 use Rattle.method.proofs.View.{started-unstarted}
 use Rattle.method.proofs.Acts.{near, floor}
 use Rattle.method.proofs.Keeping.{Acting, Keeps}
 use Rattle.method.proofs.Lawful.{Lawful}
-use Rattle.method.proofs.Bounded.{ends-le, table-few}
+use Rattle.method.proofs.Bounded.{table-few}
 
 -- a length of m or more, no less than the last
 sendLen-many : (s : List Msg) (x m : ℕ) → lengths s ≤ suc (lastLen s) - m → lastLen s ≤ x → m ≤ x → lengths (sendLen s x) ≤ suc x - m

@@ -5,10 +5,10 @@ use mathlib.Core.Logic.{_⊎_, _↔_}
 use mathlib.Core.Bool.{true}
 use mathlib.Core.List.{List, _∷_, _++_}
 use Prim.Native.Nat.{ℕ, _≤_, _<_}
-use lib.ListN.{length, getD}
+use lib.ListN.{length}
 use Rattle.method.specs.Distinct.{Distinct}
 use Rattle.method.specs.Network.{Net, IsNode, IsArc, Sizes, Valid, Positive, Ranked}
-use Rattle.method.specs.Steps.{Step, byteStep, steps, taken, step, run}
+use Rattle.method.specs.Steps.{Step, byteStep, taken, step, run}
 use Rattle.method.specs.Entries.{known, nodes, entry, Stopped, records}
 use Rattle.method.specs.Order.{Begins, AllLed}
 use Rattle.method.specs.Loop.{ZeroLoop, Loopless, depth, zeroLoop, Way}
@@ -25,8 +25,7 @@ pub record Requests (net : Net) : Type 0 where
   -- p. (K9) Law e where no loop consists of zero arcs only.
   pub p-some-step : Sizes net → Valid net → Loopless net → (bs : List Step) (i : ℕ) → IsNode (net .n) i → (Stopped net bs i → ⊥)
       → (b : ℕ) × (b ≤ 255) × (step net (run net bs) (byteStep b) .kind ≡ taken)
-  pub p-ends : Sizes net → Valid net → Loopless net → (bs : List Step)
-      → (cs : List ℕ) × ((k : ℕ) → getD cs k 0 ≤ 255) × ((i : ℕ) → IsNode (net .n) i → Stopped net (bs ++ steps cs) i)
+  pub p-ends : Valid net → Loopless net → (bs : List Step) → (cs : List Step) × ((i : ℕ) → IsNode (net .n) i → Stopped net (bs ++ cs) i)
   -- "Following first hops still reaches the target, though the distance may stand still on a hop." No node is passed twice, so there
   -- are fewer hops than nodes.
   pub p-hops-lead : Valid net → Loopless net → (bs : List Step) (i y d h : ℕ) → entry net bs i y ≡ known d h

@@ -19,7 +19,7 @@ use Rattle.method.proofs.Again.{turn-held}
 use Rattle.method.proofs.Working.{work-ok}
 use Rattle.method.proofs.Steady.{work-keeps}
 use Rattle.method.proofs.Always.{sources}
-use Rattle.method.proofs.Bounded.{ends-le}
+use Rattle.method.proofs.Sent.{ends-le}
 use Rattle.method.proofs.Tight.{spread}
 use Rattle.method.proofs.Enough.{work-rests}
 use Rattle.network.specs.Layout.{nodesAt, netOf, Laid}

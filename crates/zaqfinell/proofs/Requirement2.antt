@@ -8,11 +8,12 @@ use native.Mathlib.Omega.{arith}
 use lib.ListN.{length, take, length-map}
 use Rattle.method.specs.Network.{Arc, Net, IsNode, Accepted}
 use Rattle.method.specs.Rules.{Filled, Phase, stopped}
-use Rattle.method.specs.Steps.{Step, steps, byteStep, run, counts, counted}
+use Rattle.method.specs.Steps.{Step, steps, byteStep, run, counts}
 use Rattle.method.specs.Entries.{Entry, unknown, nodes, entry, unreachable, known, find, said, table, Stopped, stoppedTo}
 use Rattle.method.specs.Laws.{Leads, arrived, hop}
 use Rattle.method.proofs.Proved.{laws as method-laws}
 use Rattle.method.proofs.Always.{run-lawful}
+use Rattle.method.proofs.Ends.{one-more}
 use Rattle.method.proofs.Said.{unreachable-no-chain}
 use Rattle.bits.specs.Bits.{Bytes}
 use Rattle.bits.proofs.Bytes.{length-packed}
@@ -22,7 +23,7 @@ use Rattle.network.specs.Checked.{Checked, IsAccepted, fromBytes, fromList}
 use Rattle.method.specs.Room.{begins}
 use Rattle.method.proofs.Room.{written, begins-read}
 use Rattle.network.proofs.Laws.{checks}
-use Rattle.method.proofs.Stopping.{stopped-count, all-stopped, one-working}
+use Rattle.method.proofs.StoppedCount.{stopped-count, each-stopped, one-working}
 use Rattle.table.specs.File.{one}
 use Rattle.table.specs.Reader.{entryRead}
 use Rattle.table.specs.Laws.{Started}
@@ -78,7 +79,7 @@ module _ (net : Checked) (accepted : IsAccepted net) (fit : Accepted (net .meant
   filled : (bs : List ℕ) → stoppedOf net bs ≡ nodesOf net → (i y : ℕ) → IsNode (nodesOf net) i
       → Stopped (net .meant) (steps bs) i × (entryAfter net bs i y ≢ unknown)
   filled bs all i y at =
-      let stop = all-stopped (stateAfter net bs) (nodesOf net) all i at in
+      let stop = each-stopped (stateAfter net bs) (nodesOf net) all i at in
       (stop, not-unknown bs i y stop)
 
   -- one step more
@@ -86,13 +87,11 @@ module _ (net : Checked) (accepted : IsAccepted net) (fit : Accepted (net .meant
       → (b : ℕ) × (b ≤ 255) × (countsOf net (bs ++ (b ∷ [])) .taken ≡ suc (countsOf net bs .taken))
   progress bs lt =
       let j = one-working (stateAfter net bs) (nodesOf net) lt in
-      let s = method-laws (net .meant) .e-some-step (fit .sizes) (fit .valid) (fit .positive) (steps bs) (j .0) (j .1)
-      (j .2) in (
+      let s = method-laws (net .meant) .e-some-step (fit .sizes) (fit .valid) (fit .positive) (steps bs) (j .0) (j .1) (j .2) in (
         s .0,
         s .1,
         ap (λ (l : List Step). counts (net .meant) l .taken) (map-append byteStep bs (s .0 ∷ []))
-            ∙ ap (λ c. c .taken) (method-laws (net .meant) .g-each (steps bs) (byteStep (s .0)))
-            ∙ ap (λ k. counted k (countsOf net bs) .taken) (s .2),
+            ∙ one-more (net .meant) (steps bs) (byteStep (s .0)) (s .2),
       )
 
   -- to the end

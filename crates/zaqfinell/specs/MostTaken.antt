@@ -37,10 +37,12 @@ pub record FewTaken (net : Checked) : Type 0 where
   -- what zaq_run or zaq_run_arcs counts as taken, the first of its counts, is at most what zaq_most_taken or zaq_most_taken_arcs answers
   pub answered : (bs counts entries : List ℕ) (r : ℕ) (counts′ entries′ : List ℕ) (q : ℕ) → length counts ≡ 4
       → RunPromise net bs counts entries r counts′ entries′ → r ≡ 0 → MostPromise net q → getD counts′ 0 0 ≤ mostIn q
-  -- a recorder with room for so many steps loses nothing: those that are taken are so many, and lead to the same state by themselves
+  -- a recorder with room for so many steps loses nothing: what it keeps are as many as were taken, they lead to the same state by
+  -- themselves, and each of them is then taken again
   pub kept : (bs : List ℕ) → length (takenOf net bs) ≡ countsOf net bs .taken
   pub same-state : (bs : List ℕ) → stateAfter net (takenOf net bs) ≡ stateAfter net bs
-  -- no house takes more than the largest one can
+  pub again : (bs : List ℕ) → takenOf net (takenOf net bs) ≡ takenOf net bs
+  -- the number is never more than that of the largest house
   pub at-most-61696 : mostTaken (net .meant) ≤ 61696
 
 -- a small house in which as many are taken: three nodes in a ring, each of which hears the next at length 1, which is LMAX

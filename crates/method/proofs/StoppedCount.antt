@@ -37,9 +37,9 @@ stopped-count st (suc k) all =
     omega arith
 
 -- where as many have stopped as there are, each has
-pub all-stopped : (st : State) (k : ℕ) → stoppedTo st k ≡ k → AllStopped (λ i. st i .node) k
-all-stopped st zero e j at = absurd (omega arith)
-all-stopped st (suc k) e j at = go (isStopped (st (suc k))) refl (last-or-before k j at) (λ f. all-stopped st k f j)
+pub each-stopped : (st : State) (k : ℕ) → stoppedTo st k ≡ k → AllStopped (λ i. st i .node) k
+each-stopped st zero e j at = absurd (omega arith)
+each-stopped st (suc k) e j at = go (isStopped (st (suc k))) refl (last-or-before k j at) (λ f. each-stopped st k f j)
   where
     go : (t : Bool) → isStopped (st (suc k)) ≡ t → (j ≡ suc k) ⊎ IsNode k j
         → (stoppedTo st k ≡ k → IsNode k j → st j .node .phase ≡ stopped) → st j .node .phase ≡ stopped
