@@ -1,5 +1,6 @@
 // "House table": reads a network's bytes and step bytes from standard input, and writes the counts and every entry. What goes wrong is told
 // by a line on standard error as well. The exit status is 0 in any case, since Rattle's `main` has none to give: tools/house_table.sh does.
+#![tactic(auto)]
 use libc::{STDERR_FILENO, STDIN_FILENO, STDOUT_FILENO};
 
 // "It uses the first 65,000 bytes and reads no further."

@@ -55,6 +55,7 @@ module _ (net : Net) (va : Valid net) (ranked : Ranked net) (i : ℕ) where
           ranked k h (va.heads i k t.len t.arc) (va.heads i h s.len s.arc) (omega arith)
 
   direct_others : (h : ℕ) → h ≢ i → (es : List Filled) (f : Filled) → In f es → f.target ≡ h → f.hop ≡ h → Direct h (others i es)
+  direct_others h ne mathlib.Core.List.[] f m t p = elim m [ ]
   direct_others h ne (e ∷ es) f m t p = by (eqb e.target i) refl m (λ w. direct_others h ne es f w t p)
     where
       by : (b : Bool) → eqb e.target i ≡ b → In f (e ∷ es) → (In f es → Direct h (others i es))

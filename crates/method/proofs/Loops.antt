@@ -33,6 +33,7 @@ or_true true = refl
 or_true false = refl
 
 arc_zero_to : (ar : List Arc) (i j : ℕ) (f : ℕ → Bool) → IsArc ar i j 0 → f j ≡ true → zero_to ar i f ≡ true
+arc_zero_to [] i j f x'' w = elim x'' [ ]
 arc_zero_to (a ∷ ar) i j f (inl q) w =
     let h : f a.head ≡ true = ap f q.1 ∙ w in
     rw (eq-eqb a.tail i q.0, eq-eqb a.len 0 q.2, h)

@@ -47,6 +47,7 @@ module _ (net : Net) (va : Valid net) where
     fill_near (f ∷ []) e own j l a le = let q : ¬ (l < p.sum) = λ lt. beside lt in omega arith
       where
         only : (y : ℕ) → Has y (f ∷ []) → y ≡ f.target
+        only y (inr x6) = elim x6 [ ]
         only y (inl q) = q
 
         beside : l < p.sum → ⊥

@@ -60,6 +60,7 @@ module _ (net : Net) (va : Valid net) (loopless : Loopless net) (nodes : ℕ →
   way_entry i d (h ∷ xs) w = (h, w.2)
 
   on_way : (i d : ℕ) (xs : List ℕ) → Way net nodes y i d xs → (z : ℕ) → Among z xs → On i d z
+  on_way i d [] w z x'' = elim x'' [ ]
   on_way i d (h ∷ xs) w z (inl q) =
       let e = way_entry h w.1 xs w.5 in
       record {
@@ -101,6 +102,7 @@ module _ (net : Net) (va : Valid net) (loopless : Loopless net) (nodes : ℕ →
 -- a way is over nodes, and has fewer hops than there are nodes
 way_nodes : (net : Net) → Valid net → (nodes : ℕ → Node) (y i d : ℕ) (xs : List ℕ) → Way net nodes y i d xs → (z : ℕ) → Among z xs
     → IsNode net.n z
+way_nodes net va nodes y i d [] w z x'' = elim x'' [ ]
 way_nodes net va nodes y i d (h ∷ xs) w z (inl q) = subst (λ (k : ℕ). IsNode net.n k) (sym q) (va.heads i h w.0 w.3)
 way_nodes net va nodes y i d (h ∷ xs) w z (inr m) = way_nodes net va nodes y h w.1 xs w.5 z m
 

@@ -1,4 +1,5 @@
 // What a finished run's array says: who has stopped, and a node's entry for a target.
+#![tactic(auto)]
 ghost use Rattle.std.specs.Prelude.{◌≡◌, ◌+◌, ◌≤◌, ◌<◌, length};
 ghost use Rattle.method.specs.If.{if◌then◌else◌};
 ghost use Rattle.method.specs.Marks.{distance_of, hop_of};

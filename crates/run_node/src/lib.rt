@@ -1,4 +1,5 @@
 // A node's work over the state's array: rules 1 to 4, until it waits or stops.
+#![tactic(auto)]
 ghost use Rattle.std.specs.Prelude.{◌≡◌, ◌+◌, ◌-◌, ◌≤◌, ◌<◌, length, ltb};
 ghost use Rattle.method.specs.If.{if◌then◌else◌};
 ghost use Rattle.network.specs.Layout.{Laid};

@@ -1,5 +1,6 @@
 // Reading a table file: any bytes are refused with a number and a place, or are entries. Each loop goes over the records by one cursor
 // (crate `table_records`).
+#![tactic(auto)]
 ghost use Rattle.std.specs.Prelude.{◌≡◌, ◌*◌, ◌≤◌, length, eqb};
 ghost use Rattle.bits.specs.Bits.{bits_of};
 ghost use Rattle.method.specs.If.{if◌then◌else◌};
