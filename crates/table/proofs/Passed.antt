@@ -94,10 +94,12 @@ passed_once h [] p = tt
 passed_once h (e ∷ es) p = (has_false e.target es p.0.sound.new, passed_once h es p.1)
 
 pub passed_nodes : (h : Header) (es : List Filled) → Passed h es → (y : ℕ) → Has y es → IsNode h.n y × (y ≢ h.own)
+passed_nodes h [] p y x'' = elim x'' [ ]
 passed_nodes h (e ∷ es) p y (inl q) = rw q (p.0.sound.target, p.0.sound.other)
 passed_nodes h (e ∷ es) p y (inr m) = passed_nodes h es p.1 y m
 
 pub passed_hop : (h : Header) (es : List Filled) → Passed h es → (e : Filled) → In e es → IsNode h.n e.hop
+passed_hop h [] p e x'' = elim x'' [ ]
 passed_hop h (x ∷ es) p e (inl q) = rw q p.0.sound.hop
 passed_hop h (x ∷ es) p e (inr m) = passed_hop h es p.1 e m
 
@@ -121,5 +123,6 @@ last_distance_lem h [] p l = omega arith
 last_distance_lem h (e ∷ es) p l = omega (arith, p.0.sound.slowly, last_distance_lem h es p.1 l)
 
 pub passed_distance : (h : Header) (es : List Filled) → Passed h es → h.lmax < 16 → (e : Filled) → In e es → e.distance ≤ 15 * length es
+passed_distance h [] p l e x3 = elim x3 [ ]
 passed_distance h (x ∷ es) p l e (inl q) = rw q (last_distance_lem h (x ∷ es) p l)
 passed_distance h (x ∷ es) p l e (inr m) = omega (arith, passed_distance h es p.1 l e m)
