@@ -100,7 +100,7 @@ module _ (n lmax : ℕ) (ys : List Arc) where
       go zero is to =
           record {
             refused = rw (to refl) (goes_on n lmax i g a (ahead i) (ahead (i + 1)) is_next 0 is refl ∙ b.refused);
-            laid_out_lem = λ e. rw (to refl) (one_more_lem n lmax i g a (ahead i) (ahead (i + 1)) is_next 0 is ∙ b.laid_out refl);
+            laid_out_lem = λ e. rw (to refl) (one_more_lem n lmax i g a (ahead i) (ahead (i + 1)) is_next 0 is ∙ b.laid_out_lem refl);
             within = λ e. ((b.within refl).0, (b.within refl).1, rw (to refl) (simp length-set (b.within refl).2));
           }
 
@@ -121,7 +121,7 @@ module _ (n lmax : ℕ) (ys : List Arc) where
 
     layout_is : f ≡ 0 → g ≡ laid_out (listed n lmax ys)
     unfolding with_arcs
-    layout_is z = ap (with_arcs g (length ys)) (sym none_ahead) ∙ b.laid_out z
+    layout_is z = ap (with_arcs g (length ys)) (sym none_ahead) ∙ b.laid_out_lem z
 
     -- what is refused and what is laid out, together, is what the check finds of the list
     pub whole_found : (r : Found) → r.refused ≡ f → r.laid ≡ g → Finds (from_list n lmax whole) r

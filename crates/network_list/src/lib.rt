@@ -14,7 +14,7 @@ use network::{Found, LAYOUT};
 
 // An arc of a list, in memory as C lays it out: tail, head, length.
 #[repr(C)]
-#[derive(Drop)]
+#[derive(Clone, Copy)]
 pub struct Arc {
     pub tail: u8,
     pub head: u8,
