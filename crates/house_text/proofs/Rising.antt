@@ -17,6 +17,7 @@ module _ (text : ℕ → List ℕ) where
   length_more k = length-append (rising text k) (text (suc k))
 
   grows : (k n : ℕ) → k < n → length (rising text (suc k)) ≤ length (rising text n)
+  grows k zero h = elim h [ ]
   grows k (suc n) h =
       ⊎_elim
       (λ e. omega (arith, ap (λ (j : ℕ). length (rising text j)) e))

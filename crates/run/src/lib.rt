@@ -12,7 +12,7 @@ use run_cells::*;
 use run_node::{Chosen, work, work_from};
 
 // What a step counts as.
-#[derive(Drop)]
+#[derive(Clone, Copy)]
 pub enum Kind {
     Taken,
     Idle,
@@ -85,7 +85,7 @@ pub fn step(net: &[u8], s: &mut [u8], b: u8) -> Kind
 }
 
 // How many steps were taken, idle, unknown.
-#[derive(Drop)]
+#[derive(Clone, Copy)]
 pub struct Counts {
     pub taken: usize,
     pub idle: usize,

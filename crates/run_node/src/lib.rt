@@ -11,7 +11,7 @@ ghost use Rattle.run_node.specs.Working.{Working, Worked};
 use run_cells::*;
 
 // A chosen arc: its sum, and its head.
-#[derive(Drop)]
+#[derive(Clone, Copy)]
 pub struct Chosen {
     pub sum: usize,
     pub head: usize,
@@ -53,7 +53,7 @@ pub fn choose(s: &[u8], i: usize) -> Chosen
 }
 
 // What came of the chosen arc: nothing further, a label, or a length or the end.
-#[derive(Drop)]
+#[derive(Clone, Copy)]
 pub enum Heard {
     Nothing,
     Label,

@@ -8,21 +8,21 @@ use refusal::Refusal;
 pub const NO_HOP: u16 = 255;
 
 // An entry of a file, a mark in the distance's place where it is unknown or unreachable; or a refusal.
-#[derive(Drop)]
+#[derive(Clone, Copy)]
 pub enum Answer {
     Entry(Distance, u16),
     Refused(Refusal),
 }
 
 // How many numbers were written from the room's start on; or a refusal.
-#[derive(Drop)]
+#[derive(Clone, Copy)]
 pub enum Outcome {
     Written(usize),
     Refused(Refusal),
 }
 
 // What the header of a file says: the own number, n and LMAX.
-#[derive(Drop)]
+#[derive(Clone, Copy)]
 pub struct Header {
     pub own: u32,
     pub n: u32,
@@ -30,7 +30,7 @@ pub struct Header {
 }
 
 // How the records of a file end: without the end mark, with it, or with a refusal.
-#[derive(Drop)]
+#[derive(Clone, Copy)]
 pub enum Ending {
     Unfinished,
     Marked,

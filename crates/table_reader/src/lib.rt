@@ -18,7 +18,7 @@ use table::{Answer, Ending, Header, NO_HOP, Outcome};
 use table_records::Met;
 
 // What the records of a file tell: how they end, and what the one for a target says, 0 and 0 where there is none.
-#[derive(Drop)]
+#[derive(Clone, Copy)]
 struct Walked {
     ending: Ending,
     distance: u16,

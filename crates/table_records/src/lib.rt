@@ -12,7 +12,7 @@ use table::{Ending, Header};
 
 // Where a walk over the records is: the bit after those taken, their targets (target t has the bit of weight 2 ^ (t - 1)) and the last
 // one's distance.
-#[derive(Drop)]
+#[derive(Clone, Copy)]
 pub struct Cursor {
     pub at: usize,
     pub seen: u32,
@@ -21,7 +21,7 @@ pub struct Cursor {
 
 // What stands at the cursor: a record, with the cursor after it, its target and its first hop (its distance is that cursor's); one that
 // refusal 17 finds wrong; or none.
-#[derive(Drop)]
+#[derive(Clone, Copy)]
 pub enum Met {
     Record(Cursor, u32, u32),
     Wrong,

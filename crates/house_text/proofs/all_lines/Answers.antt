@@ -1,0 +1,24 @@
+-- `all_lines`: one node's lines more at each turn.
+use Prim.Native.Nat.{◌-◌, ◌≤◌}
+use mathlib.Core.Path.{◌≡◌}
+use lib.ListN.{length}
+use Rattle.house_text.specs.Lines.{rising, node_lines}
+use Rattle.house_text.specs.Handed.{handed_entry}
+use Rattle.house_words.specs.Writing.{Written}
+use Rattle.house_text.proofs.Rising.{next_has_room, one_more_lem}
+use borrow.Author.Rules.{rules}
+use native.Mathlib.Omega.{arith}
+use Rattle.house_text.proofs.all_lines.Goals as goal
+
+pub node_lines-next-requires : goal.node_lines-next-requires
+node_lines-next-requires c =
+    (search rules, next_has_room _ c.loop-i.i c.loop-i.invariant.2 c.args.n (omega arith) c.requires.1)
+
+pub loop-i-preserved : goal.loop-i-preserved
+loop-i-preserved c =
+    (search rules, search rules, one_more_lem _ c.loop-i.i c.loop-i.invariant.2 c.Node-Lines.ensures)
+
+pub returns : goal.returns
+returns c =
+    let e : c.loop-i.i ≡ c.args.n = omega arith in
+    rw e at c.loop-i.invariant.2

@@ -1,0 +1,24 @@
+-- `node_lines`: one target's line more at each turn.
+use Prim.Native.Nat.{◌-◌, ◌≤◌}
+use mathlib.Core.Path.{◌≡◌}
+use lib.ListN.{length}
+use Rattle.house_text.specs.Lines.{node_lines}
+use Rattle.house_text.specs.Handed.{handed_entry}
+use Rattle.house_words.specs.Writing.{Written}
+use Rattle.house_text.proofs.Rising.{next_has_room, one_more_lem}
+use borrow.Author.Rules.{rules}
+use native.Mathlib.Omega.{arith}
+use Rattle.house_text.proofs.node_lines.Goals as goal
+
+pub line-next-requires : goal.line-next-requires
+line-next-requires c =
+    (search rules, next_has_room _ c.loop-k.k c.loop-k.invariant.2 c.args.n (omega arith) c.requires.1)
+
+pub loop-k-preserved : goal.loop-k-preserved
+loop-k-preserved c =
+    (search rules, search rules, one_more_lem _ c.loop-k.k c.loop-k.invariant.2 c.line-next.ensures)
+
+pub returns : goal.returns
+returns c =
+    let e : c.loop-k.k ≡ c.args.n = omega arith in
+    rw e at c.loop-k.invariant.2

@@ -1,0 +1,25 @@
+-- `refused`: the whole line has room, so each part has.
+use Rattle.house_text.specs.Lines.{refused_line}
+use Rattle.house_words.specs.Writing.{HasRoom, Written}
+use Rattle.house_words.proofs.Writing.{front, rest, both, at_front}
+use Rattle.house_text.proofs.Short.{refused_short}
+use native.Mathlib.Omega.{arith}
+use borrow.Author.Rules.{rules}
+use Rattle.house_text.proofs.refused.Goals as goal
+
+has_room : (c : tie.Start) → HasRoom c.args.room.now 0 (refused_line c.args.number)
+has_room c = omega (arith, refused_short c.args.number (omega arith))
+
+pub numbered-end-requires : goal.numbered-end-requires
+numbered-end-requires c = front _ (has_room c)
+
+pub put-requires : goal.put-requires
+put-requires c =
+    omega (arith, rest c.numbered-end.ensures (has_room c))
+
+pub returns : goal.returns
+returns c =
+    let last = c.put in
+    let w : Written c.args.room.now 0 (refused_line c.args.number) last.new.0 last.result =
+    both c.numbered-end.ensures last.ensures in
+    at_front w (has_room c)

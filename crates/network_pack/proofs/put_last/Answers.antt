@@ -1,0 +1,10 @@
+-- `put_last`: two stores, one behind the other.
+use Rattle.network_list.specs.Given.{given}
+use Rattle.network_pack.proofs.Written.{last_stored}
+use borrow.Author.Rules.{rules}
+use Rattle.network_pack.proofs.put_last.Goals as goal
+
+pub returns : goal.returns
+returns c =
+    let a = c.args in
+    last_stored a.room.now a.p _ _ (given a.a) c.halves.ensures c.halves-2.ensures
