@@ -12,11 +12,14 @@ use Rattle.house_text.proofs.all_lines.Goals as goal
 
 pub node_lines-next-requires : goal.node_lines-next-requires
 node_lines-next-requires c =
-    (search rules, next_has_room _ c.loop-i.i c.loop-i.invariant.2 c.args.n (omega arith) c.requires.1)
+    record {
+      n_bound = search rules;
+      has_room = next_has_room (node_lines (handed_entry c.args.n c.args.entries.now) c.args.n) c.loop-i.i c.loop-i.invariant.2 c.args.n (omega arith) c.requires.has_room;
+    }
 
 pub loop-i-preserved : goal.loop-i-preserved
 loop-i-preserved c =
-    (search rules, search rules, one_more_lem _ c.loop-i.i c.loop-i.invariant.2 c.Node-Lines.ensures)
+    (search rules, search rules, one_more_lem (node_lines (handed_entry c.args.n c.args.entries.now) c.args.n) c.loop-i.i c.loop-i.invariant.2 c.node_lines-next.ensures)
 
 pub returns : goal.returns
 returns c =

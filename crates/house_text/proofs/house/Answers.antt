@@ -8,24 +8,32 @@ use Rattle.house_text.proofs.Short.{house_short}
 use borrow.Author.Rules.{rules}
 use Rattle.house_text.proofs.house.Goals as goal
 
-has_room : (c : tie.After-shared-slice-known)
-    → let a = c.before.before.args in
-    HasRoom a.room.now 0 (house_text a.taken a.idle a.unknown a.stopped a.n (handed_entry a.n a.entries.now))
-has_room c =
-    let a = c.before.before.args in
-    omega (
-      arith,
-      house_short a.entries.now (λ j. omega (arith, c.shared-slice-known.given j)) a.n (omega arith)
-          a.taken a.idle a.unknown a.stopped (omega arith) (omega arith) (omega arith) (omega arith),
-    )
-
 pub counts-at-requires : goal.counts-at-requires
-counts-at-requires c = front _ (has_room c)
+counts-at-requires c =
+    let has_room : HasRoom c.args.room.now 0 (house_text c.args.taken c.args.idle c.args.unknown c.args.stopped c.args.n (handed_entry c.args.n c.args.entries.now)) =
+      omega (
+        arith,
+        house_short c.args.entries.now (λ j. omega (arith, c.type_inv.entries j)) c.args.n (omega arith)
+            c.args.taken c.args.idle c.args.unknown c.args.stopped (omega arith) (omega arith) (omega arith) (omega arith),
+      ) in
+    front _ has_room
 
 pub all_lines-requires : goal.all_lines-requires
 all_lines-requires c =
-    (search rules, rest c.counts-at.ensures (has_room c))
+    let has_room : HasRoom c.args.room.now 0 (house_text c.args.taken c.args.idle c.args.unknown c.args.stopped c.args.n (handed_entry c.args.n c.args.entries.now)) =
+      omega (
+        arith,
+        house_short c.args.entries.now (λ j. omega (arith, c.type_inv.entries j)) c.args.n (omega arith)
+            c.args.taken c.args.idle c.args.unknown c.args.stopped (omega arith) (omega arith) (omega arith) (omega arith),
+      ) in
+    record { n_bound = search rules; has_room = rest c.counts-at.ensures has_room }
 
 pub returns : goal.returns
 returns c =
-    at_front (both c.counts-at.ensures c.all_lines.ensures) (has_room c)
+    let has_room : HasRoom c.args.room.now 0 (house_text c.args.taken c.args.idle c.args.unknown c.args.stopped c.args.n (handed_entry c.args.n c.args.entries.now)) =
+      omega (
+        arith,
+        house_short c.args.entries.now (λ j. omega (arith, c.type_inv.entries j)) c.args.n (omega arith)
+            c.args.taken c.args.idle c.args.unknown c.args.stopped (omega arith) (omega arith) (omega arith) (omega arith),
+      ) in
+    at_front (both c.counts-at.ensures c.all_lines.ensures) has_room

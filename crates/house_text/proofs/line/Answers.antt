@@ -4,7 +4,7 @@ use Rattle.house_text.proofs.line.Goals as goal
 
 pub entry_line-requires : goal.entry_line-requires
 entry_line-requires c =
-    rw c.place-p.ensures.0 c.requires.1
+    rw c.place-p.ensures.0 c.requires.has_room
 
 pub returns : goal.returns
 returns c =

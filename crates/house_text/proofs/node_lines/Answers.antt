@@ -2,7 +2,7 @@
 use Prim.Native.Nat.{◌-◌, ◌≤◌}
 use mathlib.Core.Path.{◌≡◌}
 use lib.ListN.{length}
-use Rattle.house_text.specs.Lines.{node_lines}
+use Rattle.house_text.specs.Lines.{entry_line, node_lines}
 use Rattle.house_text.specs.Handed.{handed_entry}
 use Rattle.house_words.specs.Writing.{Written}
 use Rattle.house_text.proofs.Rising.{next_has_room, one_more_lem}
@@ -12,11 +12,14 @@ use Rattle.house_text.proofs.node_lines.Goals as goal
 
 pub line-next-requires : goal.line-next-requires
 line-next-requires c =
-    (search rules, next_has_room _ c.loop-k.k c.loop-k.invariant.2 c.args.n (omega arith) c.requires.1)
+    record {
+      n_bound = search rules;
+      has_room = next_has_room (λ x. entry_line c.args.node x (handed_entry c.args.n c.args.entries.now c.args.node x)) c.loop-k.k c.loop-k.invariant.2 c.args.n (omega arith) c.requires.has_room;
+    }
 
 pub loop-k-preserved : goal.loop-k-preserved
 loop-k-preserved c =
-    (search rules, search rules, one_more_lem _ c.loop-k.k c.loop-k.invariant.2 c.line-next.ensures)
+    (search rules, search rules, one_more_lem (λ x. entry_line c.args.node x (handed_entry c.args.n c.args.entries.now c.args.node x)) c.loop-k.k c.loop-k.invariant.2 c.line-next.ensures)
 
 pub returns : goal.returns
 returns c =

@@ -7,19 +7,20 @@ use native.Mathlib.Omega.{arith}
 use borrow.Author.Rules.{rules}
 use Rattle.house_text.proofs.refused.Goals as goal
 
-has_room : (c : tie.Start) → HasRoom c.args.room.now 0 (refused_line c.args.number)
-has_room c = omega (arith, refused_short c.args.number (omega arith))
-
 pub numbered-end-requires : goal.numbered-end-requires
-numbered-end-requires c = front _ (has_room c)
+numbered-end-requires c =
+    let has_room : HasRoom c.args.room.now 0 (refused_line c.args.number) = omega (arith, refused_short c.args.number (omega arith)) in
+    front _ has_room
 
 pub put-requires : goal.put-requires
 put-requires c =
-    omega (arith, rest c.numbered-end.ensures (has_room c))
+    let has_room : HasRoom c.args.room.now 0 (refused_line c.args.number) = omega (arith, refused_short c.args.number (omega arith)) in
+    omega (arith, rest c.numbered-end.ensures has_room)
 
 pub returns : goal.returns
 returns c =
+    let has_room : HasRoom c.args.room.now 0 (refused_line c.args.number) = omega (arith, refused_short c.args.number (omega arith)) in
     let last = c.put in
-    let w : Written c.args.room.now 0 (refused_line c.args.number) last.new.0 last.result =
+    let w : Written c.args.room.now 0 (refused_line c.args.number) last.new.room last.result =
     both c.numbered-end.ensures last.ensures in
-    at_front w (has_room c)
+    at_front w has_room
