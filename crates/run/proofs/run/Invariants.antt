@@ -1,0 +1,20 @@
+-- `run`: step by step, what is left of the list gives the rest of the run.
+use Rattle.run.proofs.Beginning.{fresh_state, begins}
+use Rattle.run.proofs.Running.{SoFar, counted_le, nothing_done, one_done, all_done}
+use Rattle.run.specs.Ran.{kind_of, tallied}
+use Rattle.run_cells.specs.Part.{state_size, cells}
+use lib.ListN.{length}
+use mathlib.Core.Path.{◌≡◌, ◌∙◌, sym}
+use Prim.Native.Nat.{◌-◌, ◌≤◌}
+use borrow.Author.Rules.{rules}
+use native.Mathlib.Omega.{arith}
+use Rattle.run.proofs.run.Given as goal
+
+abbrev pub invariant-loop-k : goal.invariant-loop-k
+invariant-loop-k l =
+    (l.k ≤ length l.steps) × (length l.s ≡ state_size) × SoFar l.net l.steps l.k (cells l.s)
+    (tallied l.c.taken l.c.idle l.c.unknown) × (l.c.taken ≤ l.k) × (l.c.idle ≤ l.k) × (l.c.unknown ≤ l.k)
+
+abbrev pub decreases-loop-k : goal.decreases-loop-k
+decreases-loop-k l =
+    length l.steps - l.k

@@ -1,0 +1,16 @@
+-- `put_records`: a turn adds one record's bits and stores the whole bytes.
+use mathlib.Core.Path.{◌≡◌, ◌∙◌, ap}
+use Prim.Native.Nat.{ℕ, ◌-◌, ◌≤◌}
+use lib.ListN.{length}
+use Rattle.table_writer.specs.Code.{three_fields}
+use Rattle.table_writer.proofs.Writing.{Putting, putting_start, putting_next}
+use native.Mathlib.Omega.{arith}
+use borrow.Author.Rules.{rules}
+use Rattle.table_writer.proofs.put_records.Given as goal
+
+abbrev pub invariant-loop-k : goal.invariant-loop-k
+invariant-loop-k l =
+    (l.k ≤ l.count) × (length l.room ≡ length l.initial.room) × Putting l.targets l.distances l.hops l.initial.room l.room l.k l.before l.held
+
+abbrev pub decreases-loop-k : goal.decreases-loop-k
+decreases-loop-k l = l.count - l.k
