@@ -30,7 +30,7 @@ returns-then-not-waits_for c =
     let n = cells over.new.s in
     let same = same_place a.net.now p.0 m p.1 i p.2 h p.3 p.4 n over.ensures waits_at (omega arith) in
     waits_elsewhere a.net.now p.0 m p.1 i p.2 h p.3 p.4 n over.ensures
-    (λ e. eqb-false (n i waits_at) h (sym c.waits_for.ensures ∙ not-true _ c.if-not-waits_for.true) (same ∙ e))
+    (λ e. eqb-false (n i waits_at) h (sym c.waits_for.ensures ∙ c.if-not-waits_for.true) (same ∙ e))
 
 pub get-requires : goal.get-requires
 get-requires c =
@@ -76,7 +76,7 @@ work_from-requires c =
     let w : m i waits_at ≡ h =
     sym for-it ∙ eqb-true (n i waits_at) h
     (sym c.waits_for.ensures
-    ∙ not-false _ c.if-not-waits_for.false) in
+    ∙ c.if-not-waits_for.false) in
     let x = c.get-x in (
       p.0,
       delivery_working a.net.now p.0 m p.1 i p.2 h p.3 p.4 n over.ensures up,
@@ -102,4 +102,4 @@ returns c =
       c.if-get-ne1.false,
       awake,
     ) in
-    works_on_lem a.net.now p.0 m p.1 i p.2 h p.3 p.4 n over.ensures up (cells work.new.1.0) work.ensures
+    works_on_lem a.net.now p.0 m p.1 i p.2 h p.3 p.4 n over.ensures up (cells work.new.s) work.ensures

@@ -20,7 +20,7 @@ loop-k-init c =
     let a = c.args in
     let p = c.requires in
     let clear = c.clear in
-    let m = cells clear.new.1.0 in (
+    let m = cells clear.new.s in (
       omega arith,
       clear.auto.s ∙ p.1,
       nothing_done a.net.now a.steps.now m (begins a.net.now a.s.now p.1 m clear.ensures p.0)
@@ -56,7 +56,7 @@ loop-k-preserved c =
     tally.ensures in (
       omega arith,
       step.auto.s ∙ v.1,
-      one_done a.net.now a.steps.now l.k (cells l.s) (cells step.new.1.0)
+      one_done a.net.now a.steps.now l.k (cells l.s) (cells step.new.s)
           (tallied l.c.taken l.c.idle l.c.unknown)
           (tallied n.taken n.idle n.unknown) (kind_of step.result) (omega arith) v.2 step.ensures tally.ensures,
       omega (arith, q.0, v.3),

@@ -62,5 +62,5 @@ returns c =
     let work = c.work in
     let m = cells a.s.now in
     let z : m a.i phase_at ≡ 0 = sym get.ensures.0 ∙ if1.false in
-    started_now a.net.now p.0 m p.1 a.i p.2 z (cells begin.new.s) begin.ensures (cells work.new.1.0)
+    started_now a.net.now p.0 m p.1 a.i p.2 z (cells begin.new.s) begin.ensures (cells work.new.s)
     work.ensures

@@ -24,7 +24,7 @@ returns-then-b-net c =
     let start = c.start in
     acted_did a.net.now p.0 (cells a.s.now) p.1 (byte_step a.b) (node (a.b + 1))
     (names_node a.net.now a.b (omega arith)
-    (omega arith)) (a.b + 1) (cells start.new.1.0) (kind_of start.result) start.ensures
+    (omega arith)) (a.b + 1) (cells start.new.s) (kind_of start.result) start.ensures
 
 pub overflow_cast-site-then-k-net : goal.overflow_cast-site-then-k-net
 overflow_cast-site-then-k-net c =
@@ -53,7 +53,7 @@ returns-then-has_more c =
     let deliver = c.deliver in
     let on = arc_at a.net.now (a.b - 16) in
     acted_did a.net.now p.0 (cells a.s.now) p.1 (byte_step a.b) (arc on.tail on.head)
-    (names_arc a.net.now a.b (omega arith) (omega arith)) on.tail (cells deliver.new.1.0) (kind_of deliver.result)
+    (names_arc a.net.now a.b (omega arith) (omega arith)) on.tail (cells deliver.new.s) (kind_of deliver.result)
     deliver.ensures
 
 pub returns-then-k-net : goal.returns-then-k-net
