@@ -1,0 +1,19 @@
+-- `hand_rows`: one node's row more at each turn.
+use Prim.Native.Nat.{◌+◌, ◌-◌, ◌≤◌}
+use mathlib.Core.Path.{◌≡◌, refl}
+use lib.ListN.{length}
+use lib.Seq.{sets}
+use Rattle.method.specs.Entries.{entry_of}
+use Rattle.method.specs.Marks.{row_numbers}
+use Rattle.run_cells.specs.Part.{cells, state_of}
+use Rattle.run_rows.proofs.Handing.{rows_next, row_within}
+use borrow.Author.Rules.{rules}
+use native.Mathlib.Omega.{arith}
+use Rattle.run_rows.proofs.hand_rows.Given as goal
+
+abbrev pub invariant-loop-i : goal.invariant-loop-i
+invariant-loop-i l =
+    (l.i ≤ l.n) × (length l.entries ≡ length l.initial.entries) × (l.entries ≡ sets l.initial.entries 0 (row_numbers (λ i. entry_of (state_of (cells l.s) i).node) l.n l.i))
+
+abbrev pub decreases-loop-i : goal.decreases-loop-i
+decreases-loop-i l = l.n - l.i
