@@ -13,7 +13,7 @@ use Rattle.method.specs.Entries.{Entry, unknown, nodes, entry, unreachable, know
 use Rattle.method.specs.Laws.{Leads, arrived, hop}
 use Rattle.method.proofs.Proved.{laws as method-laws}
 use Rattle.method.proofs.Always.{run_lawful}
-use Rattle.method.proofs.Ends.{one_more}
+use Rattle.method.proofs.Ends.{one_more_lem}
 use Rattle.method.proofs.Said.{unreachable_no_chain}
 use Rattle.bits.specs.Bits.{Bytes}
 use Rattle.bits.proofs.Bytes.{length_packed}
@@ -91,7 +91,7 @@ module _ (net : Checked) (accepted : IsAccepted net) (fit : Accepted net.meant) 
         s.0,
         s.1,
         ap (λ (l : List Step). (counts net.meant l).taken) (map-append byte_step bs (s.0 ∷ []))
-            ∙ one_more net.meant (steps bs) (byte_step s.0) s.2,
+            ∙ one_more_lem net.meant (steps bs) (byte_step s.0) s.2,
       )
 
   -- to the end
