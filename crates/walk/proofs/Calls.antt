@@ -4,7 +4,7 @@ use Prim.Native.Nat.{ℕ}
 use lib.Dec.{T as Tr}
 use lib.ListN.{length}
 use seplogic.Ra.Ura.{Ura}
-use seplogic.Ra.TreeShare.{full_share}
+use base.Fraction.{full_share}
 use mir.Syntax.{named, w8, w64}
 use mir.Val.{Val, vint, vptr, has_ty, WT}
 use base.Logic.{ent, sep, ex_e, snd∗}
@@ -90,7 +90,7 @@ module _ {form : Form} {M : Type 1} {𝓤 : Ura M} (𝓛 : Logic 𝓤) (input : 
   said_begin h = ex_e 𝓤 _ (λ ws. snd∗ 𝓤 (sem 𝓛 (lasts (begin_ended form) tt sizes ws)) (fact 𝓤 (form.Begun n lm (length ys) h)))
 
   abbrev pub begin_gives : Val → Item 𝓤
-  begin_gives w = later (some (λ (h : List ℕ). (‵ ftrue ⊛ ‵ ((MadeRow form).own h (w ∷ []))) ⊛ raw
+  begin_gives w = later (some (λ (h : List ℕ). (‵ ftrue ⊛ ‵ ((MadeRow form).own_val h (w ∷ []))) ⊛ raw
       (ensured 𝓛 (begin_ended form) (begin_clauses form 𝓤) tt sizes tt h)))
 
   -- what is made has its type
@@ -153,5 +153,5 @@ module _ {form : Form} {M : Type 1} {𝓤 : Ura M} (𝓛 : Logic 𝓤) (input : 
 
     abbrev pub finish_gives : Val → Item 𝓤
     finish_gives v = later (some
-        (λ (r : form.shape.Found.D). (‵ ftrue ⊛ ‵ ((FoundRow form.shape).own r (v ∷ []))) ⊛ raw
+        (λ (r : form.shape.Found.D). (‵ ftrue ⊛ ‵ ((FoundRow form.shape).own_val r (v ∷ []))) ⊛ raw
         (ensured 𝓛 (finish_ended form) (finish_clauses form 𝓤) tt both tt r)))

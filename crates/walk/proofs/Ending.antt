@@ -5,7 +5,7 @@ use mathlib.Core.Bool.{Bool}
 use mathlib.Core.List.{List, [], ◌∷◌}
 use lib.ListN.{length}
 use seplogic.Ra.Ura.{Ura}
-use seplogic.Ra.TreeShare.{full_share}
+use base.Fraction.{full_share}
 use mir.Syntax.{w8, w64, ty_bool}
 use mir.Val.{Val, vbool, vint}
 use base.Logic.{SProp, ent, id⊢}
@@ -29,7 +29,7 @@ use denote.Triple.Walked.{says, walk_of, ends_at, Stays, stay_none, stay_none_sl
 use denote.Exit.{yes as held}
 use Rattle.walk.proofs.Form.{Form, Behind, ElemRow, FoundRow, MadeRow, elem_m, ended, clauses}
 use Rattle.walk.proofs.FormCode.{number_m, word, made_m, ending}
-use Rattle.walk.proofs.Stack.{Input, Blocks, En, x, at, Res, Bor, Fact, At}
+use Rattle.walk.proofs.Stack.{Input, Blocks, En, x, at, Elems, Fact, At}
 use Rattle.walk.proofs.Calls.{Known, Finish, made_typed, to_finish, asked_finish, said_finish, finish_gives}
 
 -- at the end each parameter is still owned, as it was passed
@@ -49,15 +49,14 @@ module _ {form : Form} {M : Type 1} {𝓤 : Ura M} (𝓛 : Logic 𝓤) (input : 
 
   -- what is left when the locals are gone
   abbrev Out-of : form.shape.Found.D → Val → List (Item 𝓤)
-  Out-of r v = ‵ ((FoundRow form.shape).own r (v ∷ [])) ∷ ‵ (flft κ q) ∷ Bor input ∷ Res input ∷ Fact input ∷ []
+  Out-of r v = ‵ ((FoundRow form.shape).own_val r (v ∷ [])) ∷ ‵ (flft κ q) ∷ Elems input ∷ Fact input ∷ []
 
   exits : (r : form.shape.Found.D) (v : Val) → form.shape.Says n lm ys r → ent 𝓤 (⋆ 𝓛 (Out-of r v)) (Post v)
   exits r v e =
       qed 𝓛 (Out-of r v) ∵
       suffices ! _ (ends_at 𝓛 (ended form.shape) (stayed form) (clauses form.shape 𝓤)
       (((κ, tt), (q, tt), tt, x input, at input), tt) v r (tt, (tt, (tt, tt))) (tt, (tt, (tt, tt)))) $ says ! e $
-      nothing ! $ move ! (2 ∷ 0 ∷ []) $ join ! $ move ! (3 ∷ 2 ∷ []) $ fjoin ! $ move ! (3 ∷ 0 ∷ []) $ fjoin ! $ nothing ! $ move !
-      (1 ∷ 0 ∷ []) $ fjoin ! $
+      nothing ! $ move ! (2 ∷ 0 ∷ []) $ join ! $ move ! (3 ∷ 2 ∷ []) $ fjoin ! $ nothing ! $ move ! (1 ∷ 0 ∷ []) $ fjoin ! $
       owned ! u8 (Is u8) (uint_Makes 𝓛 w8) lm _ (refl, lm_fits) $ fjoin ! $ owned ! u8 (Is u8) (uint_Makes 𝓛 w8) n _
       (refl, n_fits) $ fjoin ! $
       move ! (1 ∷ 0 ∷ []) $ frame ! $ frame ! $ done !
@@ -81,27 +80,27 @@ module _ {form : Form} {M : Type 1} {𝓤 : Ura M} (𝓛 : Logic 𝓤) (input : 
         → held_by.Behind n lm ys (length ys) f h → ent 𝓤 (⋆ 𝓛 (Gone i f u h t)) Ends
     finishes known held_by i f u h t e =
         qed 𝓛 (Gone i f u h t) ∵ exec ! 𝓣.C 𝓣.Λ (En form bs) (ending form) (at_ret (En form bs) Post) $
-        move ! (34 ∷ []) $ use1 𝓛 (some (λ (w : Val). ‵ (fat full_share (made_m form) bs.5 0 w) ⊛ ‵ ((MadeRow form).own h (w ∷ []))))
+        move ! (33 ∷ []) $ use1 𝓛 (some (λ (w : Val). ‵ (fat full_share (made_m form) bs.5 0 w) ⊛ ‵ ((MadeRow form).own_val h (w ∷ []))))
         (part_out 𝓛 (MadeRow form) refl full_share h bs.5 0) $ pick ! (λ w. split ! $ move ! (1 ∷ 0 ∷ []) $
         peeks ! (MadeRow form) (Is (MadeRow form)) (shows 𝓛 (MadeRow form)) h (w ∷ []) (λ is₅.
-        assigns ! (of_opd ! (load ! (from ! (stop !)) (look ! 1 refl))) (from ! (stop !)) (init ! 34 refl (made_typed 𝓛 input h w is₅)) $
+        assigns ! (of_opd ! (load ! (from ! (stop !)) (look ! 1 refl))) (from ! (stop !)) (init ! 33 refl (made_typed 𝓛 input h w is₅)) $
         nothing ! $ move ! (1 ∷ 0 ∷ []) $ fjoin ! $ move ! (3 ∷ 0 ∷ []) $ fjoin ! $ nothing ! $
         use2 𝓛 (raw ((Finish form 𝓛).pre (to_finish 𝓛 input f u h w))) (asked_finish 𝓛 input f u h w) $
         calls_at ! (fm_of 𝓤 H 𝓛.laws 𝓣) (Finish form 𝓛) known.finish (to_finish 𝓛 input f u h w)
-        (and_then ! (load ! (from ! (stop !)) (look ! 2 refl)) (and_then ! (load ! (from ! (stop !)) (look ! 33 refl)) (no_more !)))
+        (and_then ! (load ! (from ! (stop !)) (look ! 2 refl)) (and_then ! (load ! (from ! (stop !)) (look ! 32 refl)) (no_more !)))
         (λ v.
         use1 𝓛 (finish_gives 𝓛 input f u h w v) (id⊢ 𝓤 _) $ await ! tt $ pick ! (λ r. split ! $ move ! (1 ∷ []) $
         use1 𝓛 (raw (fact 𝓤 (form.Finished f h r))) (said_finish 𝓛 input f u h w r) $ heard ! (form.Finished f h r)
         (λ p. split ! $ drop ! $
-        -- [what the result owns; _5; _4; _6; …; _0 at 10; the token; the borrow; res; the fact; …]
+        -- [what the result owns; _5; _4; _6; …; _0 at 10; the token; the structs; the fact; …]
         peeks ! (FoundRow form.shape) (Is (FoundRow form.shape)) (shows 𝓛 (FoundRow form.shape)) r (v ∷ []) (λ is.
         land ! (from ! (stop !)) (init ! 10 refl ((LL.lawful form.shape.Found form.shape.found_laws 𝓛).typed r _ is).0) $
         returns ! (look ! 10 refl) $ forget ! 1 refl $ forget ! 2 refl $ forget ! 3 refl $ forget ! 6 refl $ forget ! 9 refl $
-        forget ! 10 refl $ forget ! 15 refl $ forget ! 16 refl $ forget ! 33 refl $
-        move ! (10 ∷ 18 ∷ []) $ free1 ! $ move ! (14 ∷ 17 ∷ []) $ free1 ! $ move ! (14 ∷ 16 ∷ []) $ free1 ! $ move !
-        (9 ∷ 15 ∷ []) $ free1 ! $ move ! (2 ∷ 14 ∷ []) $ free1 ! $
-        move ! (1 ∷ 13 ∷ []) $ free1 ! $ move ! (1 ∷ 12 ∷ []) $ free1 ! $ move ! (1 ∷ 11 ∷ []) $ free1 ! $ move !
-        (9 ∷ 10 ∷ []) $ free1 ! $ move ! (15 ∷ 9 ∷ []) $ free1 ! $
-        move ! (2 ∷ 9 ∷ []) $ free1 ! $ move ! (1 ∷ 8 ∷ []) $ free1 ! $ move ! (1 ∷ 7 ∷ []) $ free1 ! $ move !
-        (1 ∷ 6 ∷ []) $ free1 ! $ move ! (6 ∷ 5 ∷ []) $ free1 ! $
+        forget ! 10 refl $ forget ! 14 refl $ forget ! 15 refl $ forget ! 32 refl $
+        move ! (10 ∷ 17 ∷ []) $ free1 ! $ move ! (13 ∷ 16 ∷ []) $ free1 ! $ move ! (13 ∷ 15 ∷ []) $ free1 ! $ move !
+        (9 ∷ 14 ∷ []) $ free1 ! $ move ! (2 ∷ 13 ∷ []) $ free1 ! $
+        move ! (1 ∷ 12 ∷ []) $ free1 ! $ move ! (1 ∷ 11 ∷ []) $ free1 ! $ move ! (1 ∷ 10 ∷ []) $ free1 ! $ move !
+        (8 ∷ 9 ∷ []) $ free1 ! $ move ! (14 ∷ 8 ∷ []) $ free1 ! $
+        move ! (2 ∷ 8 ∷ []) $ free1 ! $ move ! (1 ∷ 7 ∷ []) $ free1 ! $ move ! (1 ∷ 6 ∷ []) $ free1 ! $ move !
+        (1 ∷ 5 ∷ []) $ free1 ! $ move ! (5 ∷ 4 ∷ []) $ free1 ! $
         free0 ! $ by ! (exits r v (held_by.all_behind n lm ys f h r e p))))))))

@@ -10,7 +10,7 @@ use mathlib.Core.Path.{◌≡◌}
 use mathlib.Core.List.{List, [], ◌∷◌}
 use lib.ListN.{length, get_or}
 use seplogic.Ra.Ura.{Ura}
-use mir.Syntax.{Ty, Name}
+use mir.Syntax.{Ty, Callee}
 use base.Logic.{emp}
 use contract.Monad.{fact}
 use denote.RattleType.{RattleType}
@@ -43,10 +43,10 @@ pub record Form : Type 2 where
   -- the bytes that are made on the way
   pub bytes : ℕ
   -- the functions that are called
-  pub before : Name
-  pub begin : Name
-  pub add : Name
-  pub finish : Name
+  pub before : Callee
+  pub begin : Callee
+  pub add : Callee
+  pub finish : Callee
   -- what `before` says of n, LMAX and the length, and its result
   pub Early : ℕ → ℕ → ℕ → ℕ → Type 0
   -- what `begin` says

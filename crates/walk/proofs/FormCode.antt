@@ -77,4 +77,4 @@ module _ (w : Form) where
       ∷ local ty_ptr value_local ∷ local (elem_m w.shape) value_local ∷ local lent_m value_local ∷ []
 
   abbrev pub function : Fn
-  function = record { lifetimes = 1; outlives = []; params = 3; locals = locals; body = body }
+  function = record { lifetimes = 1; outlives = []; ty_params = []; givens = 0; params = 3; locals = locals; body = body }

@@ -4,7 +4,7 @@ use mathlib.Core.Path.{◌≡◌, sym, subst}
 use Prim.Native.Nat.{ℕ, suc}
 use mathlib.Core.List.{List, [], ◌∷◌, ◌++◌}
 use seplogic.Ra.Ura.{Ura}
-use mir.Syntax.{named, w8, Name, Local, Body, Fn}
+use mir.Syntax.{named, w8, Callee, Local, Body, Fn}
 use mir.Val.{Val}
 use base.Logic.{SProp, ent, sep, ex, emp, via, fst∗, snd∗}
 use base.Fml.{ftrue, fsep}
@@ -35,7 +35,7 @@ use Rattle.walk.proofs.Form as F
 use Rattle.walk.proofs.Straight.{Typed}
 use Rattle.walk.proofs.SliceWalk as SW
 
-module _ (form : Shape) (me : Name) (Ready : form.Found.D → Type 0)
+module _ (form : Shape) (me : Callee) (Ready : form.Found.D → Type 0)
     (ready : (n lm : ℕ) (ys : List form.Elem.D) (l : form.Found.D) → form.Says n lm ys l → Ready l) where
   -- g's parameters after what was found are ss. It says Θ of what was found, and the call promises Ψ of what was handed over.
   module _ {M : Type 1} {𝓤 : Ura M} (𝓛 : Logic 𝓤) (𝓜 : Model 𝓤 𝓛.H) (𝓡 : Running 𝓤 𝓛.H 𝓜) {k : ℕ} (ss : List (Slot k))
@@ -67,13 +67,13 @@ module _ (form : Shape) (me : Name) (Ready : form.Found.D → Type 0)
           says ! (so κs a n lm ys l r ws.1 is θ) $ nothing ! $ fjoin ! $ nothing ! $ fjoin ! $ done !))
 
     -- the two contracts, as the signatures and the clauses say them
-    abbrev Callee : Contract 𝓤
-    Callee = record {
+    abbrev OfG : Contract 𝓤
+    OfG = record {
       Ghost = ((κs : Lfts k) × (qs : Shares k) × Unit
           {0} × (a : form.Found.D × Denots (types_at ss κs)) × (List Val × Valss (types_at ss κs))) × Unit {0};
       args = λ y. y.0.4.0 ++ flat (types_at ss y.0.0) y.0.4.1;
       pre = λ y. sep 𝓤 (sep 𝓤 (toks 𝓛 k y.0.0 y.0.1)
-          (sem 𝓛 (fsep ((F.FoundRow form).own y.0.3.0 y.0.4.0)
+          (sem 𝓛 (fsep ((F.FoundRow form).own_val y.0.3.0 y.0.4.0)
           (owns (types_at ss y.0.0) y.0.3.1 y.0.4.1)))) (fact 𝓤 (Ready y.0.3.0));
       post = λ y v. H.⇛ (ex 𝓤 (λ (r : ℕ). sep 𝓤 (sep 𝓤 (toks 𝓛 k y.0.0 y.0.1) (sem 𝓛 (u32.own_val r (v ∷ []))))
           (ex 𝓤 (Said y.0.0 y.0.3.1 y.0.3.0 r))));
@@ -101,7 +101,7 @@ module _ (form : Shape) (me : Name) (Ready : form.Found.D → Type 0)
         (env : Meanings) (routine : Routine)
         (met-list : Triple 𝓤 (𝓡.run routine)
         (triple_of 𝓛 (F.ended form).signature (closing 𝓛 (F.ended form) (F.clauses form 𝓤))))
-        (calls-list : env me ≡ routine) (g : Name) (G : Routine) (calls-g : env g ≡ G) (met : Triple 𝓤 (𝓡.run G) Callee) where
+        (calls-list : env me ≡ routine) (g : Callee) (G : Routine) (calls-g : env g ≡ G) (met : Triple 𝓤 (𝓡.run G) OfG) where
       abbrev C : Calls 𝓤 H
       C = (tables 𝓤 H 𝓜 𝓡 env).C
 
@@ -142,12 +142,12 @@ module _ (form : Shape) (me : Name) (Ready : form.Found.D → Type 0)
             (cited 𝓤 H (SW.ListC form me Ready ready 𝓛 n lm κs.0 qs.0 xs) 𝓜 𝓡 env me routine calls-list met-list)
             ls g (vals κs.1 a) (toks 𝓛 k κs.1 qs.1) (owns (types_at ss κs.1) a (valss_of κs.1 a))
             (λ l r. ex 𝓤 (Said κs.1 a l r)) (λ r. ex 𝓤 (Promised κs.1 a n lm xs.now r))
-            (λ l u. cited 𝓤 H Callee 𝓜 𝓡 env g G calls-g met ((κs.1, qs.1, tt, (l, a), (u ∷ [], valss_of κs.1 a)), tt))
+            (λ l u. cited 𝓤 H OfG 𝓜 𝓡 env g G calls-g met ((κs.1, qs.1, tt, (l, a), (u ∷ [], valss_of κs.1 a)), tt))
             (kept κs.1 a n lm xs.now)
             are.1.1.0.0.1 (fits κs.1 a are.1.1.1) f d rest is-arc js (ts κs.1 a)
             (goes_on n lm xs κs.1 a are.1.1.1) (passes n lm xs κs.1 a)
 
-        pub slice_call : (name : Name) → Closed 𝓤 H C Λ name f → Triple 𝓤 (C name) Whole
+        pub slice_call : (name : Callee) → Closed 𝓤 H C Λ name f → Triple 𝓤 (C name) Whole
         slice_call name closed = entered 𝓤 H Whole C Λ name f closed (λ y.
             let κs : Lfts (suc k) = y.0.0 in
             let a : Denots (Types κs) = y.0.3 in

@@ -8,7 +8,7 @@ use mathlib.Core.List.{List, [], ◌∷◌, ◌++◌, map}
 use lib.Dec.{T as Holds}
 use lib.ListN.{length}
 use seplogic.Ra.Ura.{Ura}
-use mir.Syntax.{named, imm, w8, w32, ty_int, ty_ref, Name, Local, local, value_local, Body, seq, call, place, return, Fn}
+use mir.Syntax.{named, imm, w8, w32, ty_int, ty_ref, Callee, Local, local, value_local, Body, seq, call, place, return, Fn}
 use mir.Val.{Val, vint, has_ty, WT}
 use base.Logic.{SProp, ent, sep, ex, emp, snd∗, ex_e, id⊢}
 use base.Fml.{Lft, Share, Fml, ftrue, fsep, flft}
@@ -36,7 +36,7 @@ use Rattle.walk.proofs.Form.{Shape}
 use Rattle.walk.proofs.Form as F
 use Rattle.walk.proofs.Straight.{Blocks, Typed, copied, env_at, cells, AllHolding, Sq, past, begins, reads, ends}
 
-module _ (form : Shape) (me : Name) (Ready : form.Found.D → Type 0)
+module _ (form : Shape) (me : Callee) (Ready : form.Found.D → Type 0)
     (ready : (n lm : ℕ) (ys : List form.Elem.D) (l : form.Found.D) → form.Says n lm ys l → Ready l) where
   -- the call's locals: the answer, n, LMAX, the arcs, and the others
   abbrev pub arc_locals : List Local → List Local
@@ -48,7 +48,7 @@ module _ (form : Shape) (me : Name) (Ready : form.Found.D → Type 0)
   arc_body d rest = seq (call me (map copied (1 ∷ 2 ∷ 3 ∷ [])) (place d [])) rest
 
   -- its end: g is called by copies of the locals js, and the answer is what it returns
-  abbrev pub hands_to : Name → List ℕ → Body
+  abbrev pub hands_to : Callee → List ℕ → Body
   hands_to g js = seq (call g (map copied js) (place 0 [])) return
 
   -- what the locals after the answer hold: n, LMAX, the arcs, and hs
@@ -72,7 +72,7 @@ module _ (form : Shape) (me : Name) (Ready : form.Found.D → Type 0)
     Filled u = map held vs ++ (held u ∷ map held ts)
 
     -- the code goes on by rest to the call of g
-    abbrev pub GoesOn : Calls 𝓤 H → Loops 𝓤 H → ℕ → Body → Name → Type 2
+    abbrev pub GoesOn : Calls 𝓤 H → Loops 𝓤 H → ℕ → Body → Callee → Type 2
     GoesOn C Λ d rest g = (K : Val → SProp 𝓤) (bs : Blocks (arc_locals ls)) (u : Val) → Holds (has_ty (F.found_m form) u) × WT u
         → (Γ : List (Item 𝓤))
         → Sq 𝓛 (Cells 𝓤 H ls bs n lm xs (Filled u) ++ Γ) (runs C Λ (Locals 𝓤 H ls bs) (hands_to g js) (at_ret (Locals 𝓤 H ls bs) K))
@@ -103,7 +103,7 @@ module _ (form : Shape) (me : Name) (Ready : form.Found.D → Type 0)
     Arcs = (ShrSlice (named 0) κ (F.ElemRow form)).own_val xs (shr_slice_vals xs)
 
     abbrev Own : form.Found.D → Val → Fml
-    Own l u = (F.FoundRow form).own l (u ∷ [])
+    Own l u = (F.FoundRow form).own_val l (u ∷ [])
 
     told : (l : form.Found.D) → ent 𝓤 (ensured 𝓛 (F.ended form) (F.clauses form 𝓤) (κ, tt) args tt l) (fact 𝓤 (Found l))
     told l = ex_e 𝓤 _ (λ ws. snd∗ 𝓤 (sem 𝓛 (lasts (F.ended form) (κ, tt) args ws)) (fact 𝓤 (Found l)))
@@ -138,7 +138,7 @@ module _ (form : Shape) (me : Name) (Ready : form.Found.D → Type 0)
             (λ o. past 𝓛 (‵ (Own l u) ∷ ‵ (flft κ q) ∷ []) Δ Γ (k l u is o))))))
 
         -- g is handed what was found and vs, with the tokens R, and what vs own, P. It returns what says D, and the call what says D'.
-        module _ (g : Name) (vs : List Val) (R : SProp 𝓤) (P : Fml) (D : form.Found.D → ℕ → SProp 𝓤) (D' : ℕ → SProp 𝓤) where
+        module _ (g : Callee) (vs : List Val) (R : SProp 𝓤) (P : Fml) (D : form.Found.D → ℕ → SProp 𝓤) (D' : ℕ → SProp 𝓤) where
           abbrev Asks : form.Found.D → Val → SProp 𝓤
           Asks l u = sep 𝓤 (sep 𝓤 R (sem 𝓛 (fsep (Own l u) P))) (fact 𝓤 (Ready l))
 

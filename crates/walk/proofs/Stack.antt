@@ -3,22 +3,21 @@ use Prim.Native.Nat.{ℕ, ◌<◌, ◌^◌}
 use mathlib.Core.List.{List, [], ◌∷◌}
 use lib.ListN.{length}
 use seplogic.Ra.Ura.{Ura}
-use seplogic.Ra.TreeShare.{full_share}
+use base.Fraction.{full_share}
 use mir.Syntax.{Ty, named, w8, w64, ty_bool, ty_ptr}
 use mir.Val.{Val, vint}
-use base.Fml.{Lft, GName, Share, ftrue, fat, froom, fdies, flft, fres, fshr_bor}
+use base.Fml.{Lft, Share, ftrue, fat, froom, fdies, flft, fhide}
 use types.Kit.{Item, ‵, ◌⊛◌}
-use types.Share.{arr_parts}
 use denote.RattleType.{owns}
-use denote.Memory.{shares, mem as lies}
+use denote.Memory.{mem as lies}
 use denote.Builtin.{u8, u32}
 use denote.Ref.{Bor}
-use denote.Slice.{slice_val, ShrSlice, shr_slice_at, heres, coded_holeys, Room}
+use denote.Slice.{slice_val, ShrSlice, shr_slice_at, elements_shared, Room}
 use denote.Triple.Entry.{Vals}
 use Rattle.walk.proofs.Form.{Form, ElemRow, elem_m, found_m, MadeRow, ended}
 use Rattle.walk.proofs.FormCode.{byte, number_m, word, made_m, lent_m, slice}
 
--- what the function is handed: n, LMAX, and the slice of ys at o in the block b, which has the name γ and is lent for κ, at the share q.
+-- what the function is handed: n, LMAX, and the slice of ys at o in the block b, which is lent for κ, whose token is held at the share q.
 -- Each fits its type
 pub record Input (form : Form) : Type 0 where
   pub n : ℕ
@@ -27,7 +26,6 @@ pub record Input (form : Form) : Type 0 where
   pub q : Share
   pub b : ℕ
   pub o : ℕ
-  pub γ : GName
   pub ys : List form.shape.Elem.D
   pub n_fits : n < 2 ^ 8
   pub lm_fits : lm < 2 ^ 8
@@ -45,7 +43,7 @@ En form bs =
     ∷ (ty_ptr, bs.12) ∷ (elem_m form.shape, bs.13) ∷ (lent_m form, bs.14) ∷ []
 
 module _ {form : Form} (input : Input form) where
-  open input use {n, lm, κ, q, b, o, γ, ys}
+  open input use {n, lm, κ, q, b, o, ys}
 
   abbrev pub xs : Bor (List form.shape.Elem.D)
   xs = record { ref_ptr = (b, o); now = ys }
@@ -58,12 +56,9 @@ module _ {form : Form} (input : Input form) where
   at = (vint w8 n ∷ [], (vint w8 lm ∷ [], (slice_val (b, o) (length ys) ∷ [], tt)))
 
   module _ {M : Type 1} {𝓤 : Ura M} where
-    -- what the slice owns, apart
-    abbrev pub Res : Item 𝓤
-    Res = ‵ (fres γ ((coded_holeys (ElemRow form.shape)).code (heres (ElemRow form.shape) ys)))
-
-    abbrev pub Bor : Item 𝓤
-    Bor = ‵ (fshr_bor κ (λ s. (arr_parts (shares (ElemRow form.shape)) (length ys)).part s ys b o))
+    -- what the slice owns, apart: what a `&` to each of its structs holds, and the fact that says where it lies
+    abbrev pub Elems : Item 𝓤
+    Elems = ‵ (fhide (elements_shared (ElemRow form.shape) ys b o κ))
 
     abbrev pub Fact : Item 𝓤
     Fact = ‵ (shr_slice_at (ElemRow form.shape) xs at.1.1.0)
@@ -78,17 +73,16 @@ module _ {form : Form} (input : Input form) where
     module _ (bs : Blocks) where
       -- what is made
       abbrev pub Made : List ℕ → Item 𝓤
-      Made h = ‵ ((lies (MadeRow form)).lies h bs.5 0)
+      Made h = ‵ ((lies (MadeRow form)).own_at h bs.5 0)
 
       -- i structs are behind, f is refused so far, at the machine value u, and h is made in _5.
-      -- [_4; what it owns; _6; _7; _11; _10; _12; _13; _3; _0; the token; the borrow; res; the fact; _1; _2; _8; that each dies; _9; _14;
-      -- _5]
+      -- [_4; what it owns; _6; _7; _11; _10; _12; _13; _3; _0; the token; the structs; the fact; _1; _2; _8; that each dies; _9; _14; _5]
       abbrev pub At : ℕ → ℕ → Val → List ℕ → List (Item 𝓤)
       At i f u h =
           ‵ (fat full_share number_m bs.4 0 u) ∷ ‵ (u32.own_val f (u ∷ [])) ∷ ‵ (fat full_share word bs.6 0 (vint w64 i))
           ∷ ‵ (froom (elem_m form.shape) bs.7 0) ∷ ‵ (froom word bs.11 0) ∷ ‵ (froom ty_bool bs.10 0) ∷ ‵ (froom ty_ptr bs.12 0)
           ∷ ‵ (froom (elem_m form.shape) bs.13 0) ∷ ‵ (fat full_share (slice form) bs.3 0 (slice_val (b, o) (length ys)))
-          ∷ ‵ (froom (found_m form.shape) bs.0 0) ∷ ‵ (flft κ q) ∷ Bor ∷ Res ∷ Fact
+          ∷ ‵ (froom (found_m form.shape) bs.0 0) ∷ ‵ (flft κ q) ∷ Elems ∷ Fact
           ∷ ‵ (fat full_share byte bs.1 0 (vint w8 n)) ∷ ‵ (fat full_share byte bs.2 0 (vint w8 lm)) ∷ ‵ (froom word bs.8 0)
           ∷ ‵ (fdies (found_m form.shape) bs.0) ∷ ‵ (fdies byte bs.1) ∷ ‵ (fdies byte bs.2) ∷ ‵ (fdies (slice form) bs.3)
           ∷ ‵ (fdies number_m bs.4) ∷ ‵ (fdies (made_m form) bs.5) ∷ ‵ (fdies word bs.6) ∷ ‵ (fdies (elem_m form.shape) bs.7)

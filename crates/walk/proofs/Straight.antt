@@ -7,7 +7,7 @@ use mathlib.Core.List.{List, [], ◌∷◌, ◌++◌, map}
 use lib.Dec.{T as Holds}
 use lib.ListN.{get_or}
 use seplogic.Ra.Ura.{Ura}
-use seplogic.Ra.TreeShare.{full_share}
+use base.Fraction.{full_share}
 use mir.Syntax.{Ty, Local, local, place, copy, return, Opd as Operand}
 use mir.Val.{Val, has_ty, WT}
 use base.Logic.{SProp, sep, via, comm∗, assoc∗, assoc', mono_l, mono_r}

@@ -10,7 +10,7 @@ use lib.ListN.{length, get_or}
 use lib.Dec.{lt→ltb}
 use borrow.Author.Tests.{lt-leb, le-leb, ne_eqb}
 use seplogic.Ra.Ura.{Ura}
-use seplogic.Ra.TreeShare.{full_share}
+use base.Fraction.{full_share}
 use mir.Syntax as Bd
 use mir.Syntax.{Opd as Operand, named, w8, w32, w64, ty_bool, ty_ptr}
 use mir.Val.{Val, vbool, vint, vptr}
@@ -20,7 +20,7 @@ use prog.Wp.{Out, exits as exitsᴼ, Env, after_turn, Calls, Loops, Wp, Tables}
 use types.Logic.{Logic}
 use sound.WpLaws.{fm_of}
 use types.Kit.{runs, Item, ‵, raw, ◌⊛◌, some, later, ⋆, any_q, Post as After, post, prop, Step, step, ◌$◌, ◌∵◌, !, qed, by, move}
-use types.Kit.{keep, use1, use2, use3, split, join, pick, rewrite, fsplit, fjoin, await}
+use types.Kit.{keep, drop, use1, use2, use3, split, join, pick, rewrite, fsplit, fjoin, await}
 use types.Part.{whole, sub, look_in}
 use types.Run.{Opd, look, look_raw, store, init, forget, stop, hop, fld, from, load, addr, lit, of_opd, bin, and_then, no_more, assigns}
 use types.Run.{assigns_last, first, branches, skips, jumps, stays, leaves_loop, land, exec}
@@ -103,24 +103,23 @@ module _ {form : Form} {M : Type 1} {𝓤 : Ura M} (𝓛 : Logic 𝓤) (input : 
       (load ! (from ! (stop !)) (look ! 4 refl)) tt) (from ! (stop !)) (init ! 6 refl (tt, tt)) $
       rewrite ! 6 (λ (p : ℕ). ‵ (fat full_share ty_ptr bs.12 0 (vptr b p))) (sym (place_is (size form) o i)) refl $
       move ! (11 ∷ 10 ∷ []) $
-      looks_slice ! tt Row (Is Row) (shows 𝓛 Row) (LL.vals Elem elem_laws) (LL.tells Elem elem_laws) (LL.copy Elem elem_copy 𝓛) ys
-      b o (λ q'.
+      looks_slice ! tt Row (LL.copied Elem elem_copy 𝓛) ys b o (λ q'.
       elem_out ! Row (Is Row) (shows 𝓛 Row) (LL.vals Elem elem_laws) (LL.tells Elem elem_laws) q' ys i no_elem b o small (λ p.
-      -- [record i; what it owns; the others; what shuts; the borrow; _4 at 5; what it owns; _6; _7; _10; _11; _12 at 11; _13; _3; _0;
-      -- res; the fact; …]
+      -- [record i; what it owns; the others; what shuts; the structs; _4 at 5; what it owns; _6; _7; _11; _10; _12 at 11; _13; _3;
+      -- _0; the fact; …]
       assigns ! (of_opd ! (load ! (from ! (hop ! (look ! 11 refl) (stop !))) (look_raw ! 0 refl))) (from ! (stop !))
       (init ! 12 refl ((LL.lawful Elem elem_laws 𝓛).typed (get_or ys i no_elem) _ p).0) $
       assigns ! (of_opd ! (load ! (from ! (stop !)) (look ! 12 refl))) (from ! (stop !))
       (init ! 8 refl ((LL.lawful Elem elem_laws 𝓛).typed (get_or ys i no_elem) _ p).0) $
       elem_back ! Row q' ys i no_elem (LL.vals Elem elem_laws (get_or ys i no_elem)) b o small $ shuts_slice ! tt Row q' ys b o $
       -- the layout is lent for the call
-      assigns ! (addr ! (from ! (stop !))) (from ! (stop !)) (init ! 33 refl (tt, tt)) $
-      lft_new ! tt (λ α. move ! (35 ∷ []) $
+      assigns ! (addr ! (from ! (stop !))) (from ! (stop !)) (init ! 32 refl (tt, tt)) $
+      lft_new ! tt (λ α. move ! (34 ∷ []) $
       use1 𝓛 (later (some (λ (δ : GName). ‵
       ((MutRef (named 0) (α ∷ []) (MadeRow form)).own_val (record { ref_ptr = (bs.5, 0); ghost_name = δ; now = h }) (vptr bs.5 0 ∷ [])) ⊛ ‵
       (flent (α ∷ []) (Body (lies (MadeRow form)) bs.5 0 δ))))) (lends_ref 𝓛 (MadeRow form) (named 0) (α ∷ []) h bs.5 0) $
       await ! tt $ pick ! (λ δ. split ! $
-      -- [what the reference owns; the lender's part; its token; the token; the borrow; _4 at 5; what it owns; …; _14 at 36]
+      -- [what the reference owns; the lender's part; its token; the token; the structs; _4 at 5; what it owns; …; _14 at 35]
       nothing ! $ owned ! Row (Is Row) (LL.makes Elem elem_plain 𝓛) (get_or ys i no_elem) _ p $ fjoin ! $
       owned ! usize (Is usize) (uint_Makes 𝓛 w64) i _ (refl, i_fits) $ fjoin ! $
       owned ! u8 (Is u8) (uint_Makes 𝓛 w8) lm _ (refl, lm_fits) $ fjoin ! $
@@ -129,10 +128,10 @@ module _ {form : Form} {M : Type 1} {𝓤 : Ura M} (𝓛 : Logic 𝓤) (input : 
       use2 𝓛 (raw ((Add form 𝓛).pre (to_add 𝓛 input α δ bs.5 f u h i (get_or ys i no_elem))))
       (asked_add 𝓛 input α δ bs.5 f u h i (get_or ys i no_elem) ok) $
       calls_at ! (fm_of 𝓤 H 𝓛.laws 𝓣) (Add form 𝓛) known.add (to_add 𝓛 input α δ bs.5 f u h i (get_or ys i no_elem))
-      (and_then ! (load ! (from ! (stop !)) (look ! 34 refl))
+      (and_then ! (load ! (from ! (stop !)) (look ! 33 refl))
       (and_then ! (load ! (from ! (stop !)) (look ! 4 refl))
+      (and_then ! (load ! (from ! (stop !)) (look ! 14 refl))
       (and_then ! (load ! (from ! (stop !)) (look ! 15 refl))
-      (and_then ! (load ! (from ! (stop !)) (look ! 16 refl))
       (and_then ! (load ! (from ! (stop !)) (look ! 5 refl))
       (and_then ! (load ! (from ! (stop !)) (look ! 6 refl))
       (no_more !))))))) (λ v.
@@ -140,7 +139,8 @@ module _ {form : Form} {M : Type 1} {𝓤 : Ura M} (𝓛 : Logic 𝓤) (input : 
       (λ r. split ! $ move ! (1 ∷ []) $
       use1 𝓛 (add_ensures 𝓛 input α δ bs.5 f u h i (get_or ys i no_elem) r) (id⊢ 𝓤 _) $ pick !
       (λ ws. split ! $ move ! (1 ∷ []) $ heard ! (form.Added n lm f h i (get_or ys i no_elem) r ws.0) (λ e.
-      fsplit ! $ move ! (2 ∷ []) $ split ! $ split ! $
+      -- of the reference there is what says its last value, and its borrow, which goes
+      fsplit ! $ fsplit ! $ move ! (1 ∷ []) $ drop ! $ move ! (2 ∷ []) $ split ! $ split ! $
       -- and comes back
       lft_end ! tt $ move ! (0 ∷ 5 ∷ 3 ∷ []) $
       use3 𝓛 (later (Made input bs ws.0)) (ref_back 𝓛 (MadeRow form) (α ∷ []) δ ws.0 bs.5 0) $
@@ -149,9 +149,9 @@ module _ {form : Form} {M : Type 1} {𝓤 : Ura M} (𝓛 : Logic 𝓤) (input : 
       land ! (from ! (stop !)) (store ! 6 refl ((uint_Lawful 𝓛 w32).typed r _ is).0) $
       assigns_last ! (bin ! (load ! (from ! (stop !)) (look ! 7 refl)) (lit ! tt) (record { fits = next })) (from ! (stop !))
       (store ! 7 refl (tt, record { fits = next })) $
-      forget ! 8 refl $ forget ! 9 refl $ forget ! 10 refl $ forget ! 11 refl $ forget ! 12 refl $ forget ! 36 refl $
+      forget ! 8 refl $ forget ! 9 refl $ forget ! 10 refl $ forget ! 11 refl $ forget ! 12 refl $ forget ! 35 refl $
       keep ! (6 ∷ 0 ∷ 7 ∷ 8 ∷ 9 ∷ 10 ∷ 11 ∷ 12 ∷ 13 ∷ 14 ∷ 4 ∷ 5 ∷ 15 ∷ 16 ∷ 17 ∷ 18 ∷ 19 ∷ 20 ∷ 21 ∷ 22 ∷ 23 ∷ 24 ∷ 25 ∷ 26 ∷ 27 ∷
-      28 ∷ 29 ∷ 30 ∷ 31 ∷ 32 ∷ 33 ∷ 34 ∷ 35 ∷ 36 ∷ 1 ∷ []) $ by ! (k r v ws.0 e))))))))))
+      28 ∷ 29 ∷ 30 ∷ 31 ∷ 32 ∷ 33 ∷ 34 ∷ 35 ∷ 1 ∷ []) $ by ! (k r v ws.0 e))))))))))
 
   -- the turn that leaves the loop where a struct is refused
   pub refuses : (held_by : Behind form) (i f : ℕ) (h : List ℕ) (X : SProp 𝓤) → held_by.Behind n lm ys (length ys) (suc f) h

@@ -6,8 +6,8 @@ use mathlib.Core.List.{List, [], ◌∷◌}
 use lib.ListN.{length}
 use lib.Dec.{lit<}
 use seplogic.Ra.Ura.{Ura}
-use seplogic.Ra.TreeShare.{full_share}
-use mir.Syntax.{Fn, Name, named, w8, w32, w64}
+use base.Fraction.{full_share}
+use mir.Syntax.{Fn, Callee, named, w8, w32, w64}
 use mir.Val.{Val, vint}
 use base.Logic.{SProp, ent, emp, id⊢, via, fst∗}
 use base.Fml.{froom}
@@ -77,11 +77,10 @@ module _ {form : Form} (held_by : Behind form) {M : Type 1} {𝓤 : Ura M} (𝓛
         forget ! 12 refl $ move ! (20 ∷ 0 ∷ []) $
         use2 𝓛 (Made input bs h) (part_in 𝓛 (MadeRow form) refl full_share h bs.5 0 w) $
         assigns ! (of_opd ! (lit ! tt)) (from ! (stop !)) (init ! 18 refl (tt, record { fits = lit< tt })) $
-        move ! (32 ∷ []) $ fsplit ! $ drop ! $ fsplit ! $ drop ! $ fsplit ! $ fsplit ! $ move ! (1 ∷ []) $ fsplit ! $ move !
-        (35 ∷ []) $ split ! $
-        forget ! 20 refl $ keep !
-        (27 ∷ 7 ∷ 24 ∷ 22 ∷ 14 ∷ 16 ∷ 12 ∷ 10 ∷ 29 ∷ 35 ∷ 0 ∷ 3 ∷ 2 ∷ 4 ∷ 33 ∷ 31 ∷ 20 ∷ 36 ∷ 34 ∷ 32 ∷ 30 ∷ 28 ∷ 26 ∷ 25 ∷ 23 ∷
-        21 ∷ 19 ∷ 17 ∷ 15 ∷ 13 ∷ 11 ∷ 9 ∷ 18 ∷ 8 ∷ 6 ∷ []) $
+        move ! (32 ∷ []) $ fsplit ! $ drop ! $ fsplit ! $ drop ! $ fsplit ! $ fsplit ! $ move ! (34 ∷ []) $ split ! $
+        forget ! 19 refl $ keep !
+        (26 ∷ 6 ∷ 23 ∷ 21 ∷ 13 ∷ 15 ∷ 11 ∷ 9 ∷ 28 ∷ 34 ∷ 0 ∷ 3 ∷ 2 ∷ 32 ∷ 30 ∷ 19 ∷ 35 ∷ 33 ∷ 31 ∷ 29 ∷ 27 ∷ 25 ∷ 24 ∷ 22 ∷
+        20 ∷ 18 ∷ 16 ∷ 14 ∷ 12 ∷ 10 ∷ 8 ∷ 17 ∷ 7 ∷ 5 ∷ []) $
         by ! (loops held_by 𝓛 input 𝓣 known bs f u h (held_by.none_behind n lm ys f h e e'))))))
 
     -- `before` is called first
@@ -138,9 +137,8 @@ module _ {form : Form} (held_by : Behind form) {M : Type 1} {𝓤 : Ura M} (𝓛
         lm = a.1.0;
         κ = κs.0;
         q = qs.0;
-        b = a.1.1.0.ptr.0;
-        o = a.1.1.0.ptr.1;
-        γ = a.1.1.0.name;
+        b = a.1.1.0.ref_ptr.0;
+        o = a.1.1.0.ref_ptr.1;
         ys = a.1.1.0.now;
         n_fits = are.0.1;
         lm_fits = are.1.0.1;
@@ -163,18 +161,18 @@ module _ (form : Form) (held_by : Behind form) {M : Type 1} {𝓤 : Ura M} (𝓛
     (𝓡 : Running 𝓤 𝓛.H 𝓜) (env : Meanings) where
   open 𝓛 use {H}
 
-  abbrev Met : Name → Contract 𝓤 → Type 1
+  abbrev Met : Callee → Contract 𝓤 → Type 1
   Met name c = (r : Routine) × (env name ≡ r) × Triple 𝓤 (𝓡.run r) c
 
   abbrev Whole : Contract 𝓤
   Whole = triple_of 𝓛 (ended form.shape).signature (closing 𝓛 (ended form.shape) (clauses form.shape 𝓤))
 
-  known : (name : Name) (c : Contract 𝓤) → Met name c → Triple 𝓤 ((tables 𝓤 H 𝓜 𝓡 env).C name) c
+  known : (name : Callee) (c : Contract 𝓤) → Met name c → Triple 𝓤 ((tables 𝓤 H 𝓜 𝓡 env).C name) c
   known name c m = cited 𝓤 H c 𝓜 𝓡 env name m.0 m.1 m.2
 
   pub theorem : Met form.before (Before form 𝓛) → Met form.begin (Begin form 𝓛)
       → Met form.add (Add form 𝓛) → Met form.finish (Finish form 𝓛)
-      → (fn : Fn) → fn ≡ function form → (name : Name) → Closed 𝓤 H (tables 𝓤 H 𝓜 𝓡 env).C (tables 𝓤 H 𝓜 𝓡 env).Λ name fn
+      → (fn : Fn) → fn ≡ function form → (name : Callee) → Closed 𝓤 H (tables 𝓤 H 𝓜 𝓡 env).C (tables 𝓤 H 𝓜 𝓡 env).Λ name fn
       → Triple 𝓤 ((tables 𝓤 H 𝓜 𝓡 env).C name) Whole
   unfolding tables_of
   theorem before begin add finish fn is name closed =
