@@ -34,7 +34,7 @@ lib: $(library)
 endif
 
 # a folder is newer than the library if a file in it came or went
-$(library): crates.txt $(shell find crates)
+$(library): crates.txt $(shell find crates -name out -prune -o -print)
 	@bash tools/prove.sh
 
 tool: $(library)

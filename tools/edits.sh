@@ -6,7 +6,7 @@
 set -u
 cd "$(dirname "$0")/.." || exit 2
 count() { find "crates/$1/must-fail" -name '*.edit' 2> /dev/null | wc -l; }
-crates=$(sed -nE 's/^([a-z0-9_]+):.*/\1/p' crates.txt)
+crates=$(sed -nE 's/^([a-z0-9_]+)( [^:]*)?:.*/\1/p' crates.txt)
 total=$(find crates -path '*/must-fail/*.edit' | wc -l)
 named='[0-9]+ must-fail edits'
 case ${1:-} in

@@ -14,12 +14,12 @@ fi
 export CC
 
 # the toolchain's folder
-kit() { dirname "$(dirname "$(rt doc)")"; }
+kit() { dirname "$(rt doc)"; }
 
 # emulator PROCESSOR: the toolchain's, or one that is installed
 emulator() {
     local own
-    own=$(kit)/on/$(uname -m)/toolchain/bin/qemu-$1
+    own=$(kit)/toolchain/bin/qemu-$1
     if [ -x "$own" ]; then echo "$own"; else command -v "qemu-$1" || command -v "qemu-$1-static"; fi
 }
 

@@ -4,7 +4,7 @@
 # here.
 set -eu
 cd "$(dirname "$0")/.."
-build=(rt staticlib zaqfinell)
+build=(bash tools/prove.sh)
 library=target/staticlib/libzaqfinell.a
 if [ -n "${ZAQ_TARGET:-}" ]; then
     build=(bash tools/lib_for.sh "$ZAQ_TARGET")
@@ -13,7 +13,7 @@ fi
 library=${ZAQ_LIBRARY:-$library}
 if [ -n "${ZAQ_LIBRARY:-}" ]; then
     [ -f "$library" ] || { echo "$0: ZAQ_LIBRARY: there is no file $library" >&2 && exit 1; }
-elif [ ! -f "$library" ] || [ -n "$(find crates crates.txt -newer "$library" -print -quit)" ]; then
+elif [ ! -f "$library" ] || [ -n "$(find crates crates.txt -name out -prune -o -newer "$library" -print -quit)" ]; then
     log=$("${build[@]}" 2>&1) || { echo "$log" >&2 && exit 1; }
 fi
 echo "$library"

@@ -8,12 +8,14 @@ if ! command -v rt > /dev/null; then
     exit 1
 fi
 log=target/prove.log
-mkdir -p target
+mkdir -p target/staticlib
 echo 'Proving the library (some minutes the first time):'
-# the crate of the library itself comes last, and is told with the file that it makes
-if ! rt staticlib zaqfinell 2>&1 | tee "$log" | sed -un -E \
-    -e 's/^rt: ([a-z0-9_]+ proved \(.*\))$/  \1/p' -e 's,^rt: (target/staticlib/[^ ]*) has .*,  zaqfinell proved; \1 is built,p'; then
+# a crate's verdict comes after the line that names it
+if ! (cd crates/zaqfinell_c && rt lib 2>&1) | tee "$log" | sed -un -E \
+    -e '/^crate [a-z0-9_]+:/{ s/^crate ([a-z0-9_]+):.*/\1/; h; }' -e '/^logic=proved /{ g; s/^/  /; s/$/ proved/p; }'; then
     cat "$log" >&2
     echo "$0: the library is not proved" >&2
     exit 1
 fi
+cp crates/zaqfinell_c/out/libzaqfinell_c.a target/staticlib/libzaqfinell.a
+echo '  target/staticlib/libzaqfinell.a is built'

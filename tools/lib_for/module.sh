@@ -3,7 +3,7 @@
 module_triple=x86_64-unknown-linux-gnu
 module_march=x86-64
 
-kit_bin() { echo "$(kit)/on/$(uname -m)/toolchain/bin"; }
+kit_bin() { echo "$(kit)/toolchain/bin"; }
 
 link_all_but() { # link_all_but NAME FROM INTO: a link for each file and folder of FROM, but not for NAME
     local each
@@ -15,15 +15,20 @@ link_all_but() { # link_all_but NAME FROM INTO: a link for each file and folder 
 
 # stand_in_kit WORK: a kit of links in WORK/kit in which only clang is another, tools/lib_for/stand_in.sh
 stand_in_kit() {
-    local home into=$1/kit on
+    local home into=$1/kit script
     home=$(kit)
-    on=on/$(uname -m)
-    link_all_but on "$home" "$into"
-    link_all_but toolchain "$home/$on" "$into/$on"
-    link_all_but bin "$home/$on/toolchain" "$into/$on/toolchain"
-    link_all_but clang "$home/$on/toolchain/bin" "$into/$on/toolchain/bin"
-    into=$into/$on/toolchain/bin
-    ln -s "$home/$on/toolchain/bin/clang" "$into/own_clang"
+    link_all_but bin "$home" "$into"
+    rm "$into/toolchain"
+    link_all_but bin "$home/toolchain" "$into/toolchain"
+    link_all_but clang "$home/toolchain/bin" "$into/toolchain/bin"
+    # rt finds its kit by the folder that it really lies in
+    link_all_but rt "$home/bin" "$into/bin"
+    for script in rt rtlib.py; do
+        rm -f "$into/bin/$script"
+        cp "$home/bin/$script" "$into/bin/"
+    done
+    into=$into/toolchain/bin
+    ln -s "$home/toolchain/bin/clang" "$into/own_clang"
     cp tools/lib_for/stand_in.sh "$into/clang"
     mkdir "$into/calls"
     ln -s "$into/calls" "$1/calls"
@@ -34,7 +39,8 @@ take_module() {
     local work=$1 status=0 calls words
     stand_in_kit "$work"
     # the first run takes some minutes: a line is shown for each crate
-    RATTLE_HOME=$work/kit rt staticlib zaqfinell 2>&1 | tee "$work/log" | sed -un '/^rt: /p' || status=$?
+    rm -f crates/zaqfinell_c/out/libzaqfinell_c.a
+    (cd crates/zaqfinell_c && "$work/kit/bin/rt" lib 2>&1) | tee "$work/log" | sed -un '/^crate /p' || status=$?
     if [ "$status" -ne 0 ]; then
         tail -n 5 "$work/log" >&2
         no_library "the toolchain did not prove and build the library for x86-64 (exit status $status)"

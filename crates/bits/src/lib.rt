@@ -1,5 +1,6 @@
 // Fields of bits, most significant bit first, read from bytes.
 #![tactic(auto)]
+
 ghost use Rattle.std.specs.Prelude.{◌≡◌, ◌+◌, ◌-◌, ◌*◌, ◌/◌, ◌%◌, ◌^◌, ◌≤◌, ◌<◌, length, get_or};
 ghost use Rattle.bits.specs.Bits.{bits_of, field};
 ghost use Rattle.bits.specs.Window.{window_at};

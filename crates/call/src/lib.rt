@@ -1,5 +1,6 @@
 // What the public calls answer: the definitions are in specs/, and answers are made here.
 #![tactic(auto)]
+
 ghost use Rattle.std.specs.Prelude.{◌≡◌, ◌<◌};
 ghost use Rattle.call.specs.Answers.{values};
 ghost use Rattle.call.specs.Files.{outcome_answer, OneAnswer};

@@ -1,5 +1,6 @@
 // One node's entry for a target after the steps, and the nodes on the way there.
 #![tactic(auto)]
+
 ghost use Rattle.std.specs.Prelude.{◌≡◌, ◌++◌, ◌<◌, length};
 ghost use Rattle.method.specs.Marks.{distance_of, hop_of};
 ghost use Rattle.method.specs.Entries.{entry_of};

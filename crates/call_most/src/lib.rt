@@ -1,5 +1,6 @@
 // How many steps of a run can be taken, in any order: the number by which a bench crew sizes its step recorder.
 #![tactic(auto)]
+
 ghost use Rattle.std.specs.Prelude.{◌≡◌, ◌+◌, ◌*◌};
 ghost use Rattle.network.specs.Found.{Consistent};
 ghost use Rattle.call.specs.Answers.{values};

@@ -1,5 +1,6 @@
 // Table files read, for the firmware and for service desks: one entry, and all of them.
 #![tactic(auto)]
+
 ghost use Rattle.call.specs.Files.{ReadPromise, TablePromise};
 
 use table::Answer;

@@ -1,5 +1,6 @@
 // The whole outcome of a run in one call: the counts, and the entries of every node.
 #![tactic(auto)]
+
 ghost use Rattle.std.specs.Prelude.{◌≡◌, [], ◌∷◌, ◌*◌, length};
 ghost use Rattle.method.specs.Room.{begins};
 ghost use Rattle.network.specs.Found.{Consistent};

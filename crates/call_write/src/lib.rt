@@ -1,5 +1,6 @@
 // One node's table file, written after a run.
 #![tactic(auto)]
+
 ghost use Rattle.std.specs.Prelude.{◌≡◌, ◌≤◌, length};
 ghost use Rattle.method.specs.Network.{IsNode};
 ghost use Rattle.network.specs.Layout.{net_of, Laid};

@@ -1,5 +1,6 @@
 // What the bench program "House table" writes for an input: a network's bytes, then step bytes.
 #![tactic(auto)]
+
 ghost use Rattle.std.specs.Prelude.{◌≡◌, min, length};
 ghost use Rattle.house_words.specs.Room.{Front};
 ghost use Rattle.house.specs.House.{asked, text};

@@ -1,6 +1,5 @@
 -- How the entries of a house are handed over: two numbers for each entry, at the place that `method` gives it.
-use Rattle.std.specs.Prelude.{List, ℕ, ◌+◌, eqb, get_or}
-use Rattle.method.specs.If.{if◌then◌else◌}
+use Rattle.std.specs.Prelude.{List, ℕ, ◌+◌, eqb, get_or, if◌then◌else◌}
 use Rattle.method.specs.Entries.{Entry, unknown, unreachable, known}
 use Rattle.method.specs.Marks.{unknown_mark, unreachable_mark, place}
 

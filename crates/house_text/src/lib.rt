@@ -1,6 +1,7 @@
 // The lines that the bench program "House table" writes, put into a room that the caller lends. Each inner function begins at the
 // place `at` of the room and gives the place right after what it wrote.
 #![tactic(auto)]
+
 ghost use Rattle.std.specs.Prelude.{◌≡◌, [], ◌∷◌, ◌++◌, ◌+◌, ◌*◌, ◌≤◌, ◌<◌, length};
 ghost use Rattle.method.specs.Network.{IsNode};
 ghost use Rattle.method.specs.Marks;

@@ -1,6 +1,7 @@
 // Words and numbers, put into a room that the caller lends. Each function begins at the place `at` of the room and gives the place right
 // after what it wrote.
 #![tactic(auto)]
+
 ghost use Rattle.std.specs.Prelude.{[], ◌∷◌, ◌++◌};
 ghost use Rattle.house_words.specs.Decimal.{decimal};
 ghost use Rattle.house_words.specs.Writing.{HasRoom, Written};

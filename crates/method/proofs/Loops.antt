@@ -9,7 +9,7 @@ use native.Mathlib.Omega.{arith}
 use lib.Dec.{eqb}
 use lib.ListN.{length}
 use borrow.Author.Tests.{eqb-true, eqb-false, eq-eqb}
-use Rattle.method.specs.If.{if◌then◌else◌}
+use Rattle.std.specs.Prelude.{if◌then◌else◌}
 use Rattle.method.specs.Distinct.{Among, Distinct}
 use Rattle.method.specs.Network.{Arc, Net, IsNode, IsArc, Valid}
 use Rattle.method.specs.Loop.{Zeros, one, more, ZeroLoop, Loopless, zero_to, zeros_far, some_node, zero_loop, depth}

@@ -16,7 +16,7 @@ use Rattle.method.specs.Loop.{Loopless}
 use Rattle.method.specs.Message.{Msg, finite, infinite, last_len, item}
 use Rattle.method.specs.Rules.{Phase, unstarted, started, stopped, Node, Choice}
 use Rattle.method.specs.Work.{heard, next}
-use Rattle.method.specs.Steps.{State, sents, Step, start, deliver, byte_step, node, arc, taken, starting, step, run}
+use Rattle.method.specs.Steps.{State, sents, Step, start, deliver, byte_step, taken, starting, step, run}
 use Rattle.method.specs.Entries.{nodes, Stopped}
 use Rattle.method.specs.Invariant.{Waiting}
 use Rattle.method.proofs.Sent.{item_last_len}

@@ -21,7 +21,7 @@ use Rattle.method.proofs.Fill.{starts}
 use Rattle.method.proofs.Keeping.{Acting, Told, Keeps}
 use Rattle.method.proofs.Lawful.{Lawful}
 use Rattle.method.proofs.Said.{once, stopped_has}
-use Rattle.method.proofs.Order.{First, own, Canon, nothing, itself, next, canon_drop, Alike, alike}
+use Rattle.method.proofs.Order.{First, Canon, nothing, itself, next, canon_drop, Alike, alike}
 
 -- where the entry of a target stands in a table, ys being the targets of the older ones
 pub record At (y : ℕ) (ys : List ℕ) (es : List Filled) : Type 0 where

@@ -7,7 +7,7 @@ use native.Mathlib.Nat.{mul-le-mul, mul-le-mul_left}
 use native.Mathlib.Omega.{arith}
 use lib.ListN.{length}
 use borrow.Author.Tests.{eq-eqb}
-use Rattle.method.specs.If.{if◌then◌else◌}
+use Rattle.std.specs.Prelude.{if◌then◌else◌}
 use Rattle.method.specs.Network.{Net, IsArc, Sizes, Valid}
 use Rattle.method.specs.Bounds.{most_sent, most_taken, most_taken_sharp}
 use Rattle.method.specs.Rules.{Phase, unstarted, started, stopped}

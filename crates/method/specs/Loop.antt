@@ -1,6 +1,5 @@
 -- Request K9, "Wired links that cost nothing": loops of zero arcs, the test for one, and the way along first hops.
-use Rattle.std.specs.Prelude.{◌≡◌, Bool, true, false, ◌&&◌, ◌||◌, List, [], ◌∷◌, ℕ, zero, suc, ◌+◌, eqb}
-use Rattle.method.specs.If.{if◌then◌else◌}
+use Rattle.std.specs.Prelude.{◌≡◌, Bool, true, false, ◌&&◌, ◌||◌, List, [], ◌∷◌, ℕ, zero, suc, ◌+◌, eqb, if◌then◌else◌}
 use Rattle.method.specs.Network.{Arc, Net, IsArc}
 use Rattle.method.specs.Rules.{Node}
 use Rattle.method.specs.Entries.{known, entry_of}

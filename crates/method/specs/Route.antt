@@ -1,6 +1,5 @@
 -- "Following first hops from any filled entry reaches the target": the nodes that are passed.
-use Rattle.std.specs.Prelude.{List, [], ◌∷◌, ℕ, zero, suc, eqb}
-use Rattle.method.specs.If.{if◌then◌else◌}
+use Rattle.std.specs.Prelude.{List, [], ◌∷◌, ℕ, zero, suc, eqb, if◌then◌else◌}
 use Rattle.method.specs.Steps.{State}
 use Rattle.method.specs.Marks.{distance_of, hop_of}
 use Rattle.method.specs.Entries.{Entry, unknown, unreachable, known, entry_of}

@@ -1,5 +1,6 @@
 // A network's bytes: checked, and laid out for the run.
 #![tactic(auto)]
+
 ghost use Rattle.std.specs.Prelude.{◌≡◌, ◌+◌, ◌*◌, ◌≤◌, ◌<◌, length};
 ghost use Rattle.refusal.specs.Rows.{refused};
 ghost use Rattle.network.specs.Bytes.{header_byte_rows, byte_rows, arcs, network};

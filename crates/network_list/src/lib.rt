@@ -1,5 +1,6 @@
 // A network as n, LMAX and a list of arcs: checked, and laid out for the run.
 #![tactic(auto)]
+
 ghost use Rattle.std.specs.Prelude.{◌≡◌, ◌%◌, ◌≤◌, ◌<◌, length};
 ghost use Rattle.refusal.specs.Rows.{refused, ◌else◌};
 ghost use Rattle.network.specs.Refusal.{arc_rows};

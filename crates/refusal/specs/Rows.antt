@@ -1,7 +1,6 @@
 -- 01, "Refusal numbers": rows as data. A row has a number, a place and a test; a call has a list of rows, in 01's order, and is refused
 -- by the first that holds.
-use Rattle.std.specs.Prelude.{ℕ, zero, suc, ◌-◌, ◌≡◌, ◌⊎◌, Bool, true, false, ◌||◌, List, [], ◌∷◌, ◌++◌, ltb, eqb}
-use Rattle.method.specs.If.{if◌then◌else◌}
+use Rattle.std.specs.Prelude.{ℕ, zero, suc, ◌-◌, ◌≡◌, ◌⊎◌, Bool, true, false, ◌||◌, List, [], ◌∷◌, ◌++◌, ltb, eqb, if◌then◌else◌}
 use Rattle.refusal.specs.declared.Refusal.{Refusal}
 
 -- a refusal (the code's `Refusal`) by its number and its place

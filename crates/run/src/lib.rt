@@ -1,5 +1,6 @@
 // The run over a step list, equal to the method's: starts, deliveries, steps, counts.
 #![tactic(auto)]
+
 ghost use Rattle.std.specs.Prelude.{◌≡◌, ◌+◌, ◌-◌, ◌/◌, ◌%◌, ◌<◌, length, get_or};
 ghost use Rattle.method.specs.Network.{IsNode};
 ghost use Rattle.method.specs.Steps.{byte_step, starting, delivering, step, counted};

@@ -1,7 +1,6 @@
 -- How a run's state lies in one list of bytes: 16 parts, one for each node from 1 on; and the site that a part means.
 use Rattle.std.proofs.Math.Option.{Option, none, some}
-use Rattle.std.specs.Prelude.{List, [], ◌∷◌, ℕ, zero, suc, ◌+◌, ◌*◌, ◌-◌, ltb, leb, eqb, get_or}
-use Rattle.method.specs.If.{if◌then◌else◌}
+use Rattle.std.specs.Prelude.{List, [], ◌∷◌, ℕ, zero, suc, ◌+◌, ◌*◌, ◌-◌, ltb, leb, eqb, get_or, if◌then◌else◌}
 use Rattle.method.specs.Message.{Msg, label, len, end, last_len, Item, finite, infinite}
 use Rattle.method.specs.Rules.{Filled, Phase, unstarted, started, stopped, Node}
 use Rattle.method.specs.Work.{Site}

@@ -1,6 +1,5 @@
 -- What the code's stores make of a part.
-use Rattle.std.specs.Prelude.{◌≡◌, ◌≢◌, List, ℕ, zero, suc, ◌+◌, ◌-◌, ◌≤◌, ltb, eqb}
-use Rattle.method.specs.If.{if◌then◌else◌}
+use Rattle.std.specs.Prelude.{◌≡◌, ◌≢◌, List, ℕ, zero, suc, ◌+◌, ◌-◌, ◌≤◌, ltb, eqb, if◌then◌else◌}
 use Rattle.method.specs.Message.{finite}
 use Rattle.network.specs.Layout.{len_at}
 use Rattle.run_cells.specs.Part.{Part, phase_at, sent_count, entry_count, lp_at, last_at, waits_at, sums_at, marks_at, targets_at, distances_at}

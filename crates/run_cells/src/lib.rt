@@ -1,5 +1,6 @@
 // A run's state as one lent array of bytes, a part for each node: loads, and the stores that the rules ask for.
 #![tactic(auto)]
+
 ghost use Rattle.std.specs.Prelude.{◌≡◌, ◌+◌, ◌/◌, ◌%◌, ◌≤◌, ◌<◌, ltb, eqb, length};
 ghost use Rattle.network.specs.Layout.{layout_size, len_at};
 ghost use Rattle.run_cells.specs.Part.{sent_most, part_size, state_size, waits_at, delivered_at, sent_count, entry_count, targets_at, cells};

@@ -1,7 +1,7 @@
 // What a finished run's array says: who has stopped, and a node's entry for a target.
 #![tactic(auto)]
-ghost use Rattle.std.specs.Prelude.{◌≡◌, ◌+◌, ◌≤◌, ◌<◌, length};
-ghost use Rattle.method.specs.If.{if◌then◌else◌};
+
+ghost use Rattle.std.specs.Prelude.{◌≡◌, ◌+◌, ◌≤◌, ◌<◌, length, if◌then◌else◌};
 ghost use Rattle.method.specs.Marks.{distance_of, hop_of};
 ghost use Rattle.run_cells.specs.Part.{cells, state_size, state_of};
 ghost use Rattle.run_cells.specs.Caches.{Readable};

@@ -1,7 +1,7 @@
 // A node's work over the state's array: rules 1 to 4, until it waits or stops.
 #![tactic(auto)]
-ghost use Rattle.std.specs.Prelude.{◌≡◌, ◌+◌, ◌-◌, ◌≤◌, ◌<◌, length, ltb};
-ghost use Rattle.method.specs.If.{if◌then◌else◌};
+
+ghost use Rattle.std.specs.Prelude.{◌≡◌, ◌+◌, ◌-◌, ◌≤◌, ◌<◌, length, ltb, if◌then◌else◌};
 ghost use Rattle.network.specs.Layout.{Laid};
 ghost use Rattle.run_cells.specs.Part.{cells, state_size, label_most, no_sum};
 ghost use Rattle.run_cells.specs.Stores.{Stored, Rises};

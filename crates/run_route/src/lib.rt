@@ -1,5 +1,6 @@
 // The way from a node to a target along first hops, over the array that a run has left.
 #![tactic(auto)]
+
 ghost use Rattle.std.specs.Prelude.{◌≡◌, ◌+◌, ◌≤◌, length};
 ghost use Rattle.std.proofs.lemmas.List.Edits.{sets};
 ghost use Rattle.run_cells.specs.Part.{cells, state_size, state_of};

@@ -1,6 +1,7 @@
 // Table files, document 01, "Bytes": what their reader (crate `table_reader`) and their writer (crate `table_writer`) answer. The crate
 // has no function: it is the home of the definitions and laws of such files.
 #![tactic(auto)]
+
 use method::Distance;
 use refusal::Refusal;
 

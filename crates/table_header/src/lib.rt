@@ -1,5 +1,6 @@
 // The header of a table file.
 #![tactic(auto)]
+
 ghost use Rattle.std.specs.Prelude.{◌≡◌};
 ghost use Rattle.bits.specs.Bits.{bits_of};
 ghost use Rattle.refusal.specs.Rows.{first, refused};

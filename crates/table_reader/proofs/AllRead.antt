@@ -5,7 +5,7 @@ use mathlib.Core.Bool.{Bool, true, false}
 use mathlib.Core.Option.{none}
 use Prim.Native.Nat.{ℕ}
 use Rattle.bits.specs.Bits.{bits_of}
-use Rattle.method.specs.If.{if◌then◌else◌}
+use Rattle.std.specs.Prelude.{if◌then◌else◌}
 use Rattle.method.specs.Entries.{said}
 use Rattle.method.specs.Rules.{Filled}
 use Rattle.method.specs.Marks.{distance_of}

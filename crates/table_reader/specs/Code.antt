@@ -1,7 +1,6 @@
 -- What the parts of the reader answer, as the numbers that they hold.
-use Rattle.std.specs.Prelude.{ℕ, List, eqb}
+use Rattle.std.specs.Prelude.{ℕ, List, eqb, if◌then◌else◌}
 use Rattle.std.proofs.Math.Option.{Option, none, some}
-use Rattle.method.specs.If.{if◌then◌else◌}
 use Rattle.method.specs.Rules.{Filled}
 use Rattle.method.specs.Entries.{find}
 use Rattle.method.specs.Marks.{distance_of, hop_of, unknown_mark, unreachable_mark, no_hop}

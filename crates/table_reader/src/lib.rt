@@ -1,9 +1,9 @@
 // Reading a table file: any bytes are refused with a number and a place, or are entries. Each loop goes over the records by one cursor
 // (crate `table_records`).
 #![tactic(auto)]
-ghost use Rattle.std.specs.Prelude.{◌≡◌, ◌*◌, ◌≤◌, length, eqb};
+
+ghost use Rattle.std.specs.Prelude.{◌≡◌, ◌*◌, ◌≤◌, length, eqb, if◌then◌else◌};
 ghost use Rattle.bits.specs.Bits.{bits_of};
-ghost use Rattle.method.specs.If.{if◌then◌else◌};
 ghost use Rattle.table.specs.File.{one};
 ghost use Rattle.table.specs.Reader.{records_in, reading, entry_read};
 ghost use Rattle.call.specs.Files.{entries_outcome, table_room};

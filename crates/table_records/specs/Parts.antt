@@ -1,7 +1,6 @@
 -- The parts of a table file, as the numbers that the code makes of them.
-use Rattle.std.specs.Prelude.{ℕ, ◌+◌, ◌≡◌, Bool, true, false, List, length, ltb, eqb}
+use Rattle.std.specs.Prelude.{ℕ, ◌+◌, ◌≡◌, Bool, true, false, List, length, ltb, eqb, if◌then◌else◌}
 use Rattle.bits.specs.Bits.{field}
-use Rattle.method.specs.If.{if◌then◌else◌}
 use Rattle.method.specs.Rules.{Filled}
 use Rattle.refusal.specs.declared.Refusal.{Refusal}
 use Rattle.refusal.specs.Rows

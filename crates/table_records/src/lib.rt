@@ -1,5 +1,6 @@
 // The walk over a table file: a cursor that goes from record to record, and what stands where the records end.
 #![tactic(auto)]
+
 ghost use Rattle.std.specs.Prelude.{◌≡◌, ◌+◌, ◌-◌, ◌*◌, ◌%◌, ◌≤◌, ◌<◌, true, ◌&&◌, ◌||◌, length, ltb, eqb};
 ghost use Rattle.bits.specs.Bits.{bits_of, field};
 ghost use Rattle.table.specs.File.{one};

@@ -1,5 +1,6 @@
 // Writing a table file: the bits go into the room by whole bytes, and those of the byte begun are held.
 #![tactic(auto)]
+
 ghost use Rattle.std.specs.Prelude.{◌≡◌, ◌+◌, ◌-◌, ◌*◌, ◌/◌, ◌%◌, ◌≤◌, ◌<◌, min, ◌++◌, length, take};
 ghost use Rattle.bits.specs.Bits.{bits_of};
 ghost use Rattle.table.specs.File.{one, header_of};

@@ -4,7 +4,6 @@ use mathlib.Core.Path.{◌≡◌, sym}
 use Rattle.bits.specs.Bits.{Bytes}
 use Rattle.bits.proofs.ThreeBytes.{field_in_byte}
 use native.Mathlib.Omega.{arith}
-use borrow.Author.Rules.{rules}
 use Rattle.bits.proofs.nibble.Goals as goal
 
 pub returns : goal.returns

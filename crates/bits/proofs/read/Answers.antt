@@ -6,7 +6,6 @@ use lib.Pow.{pow_pos}
 use Rattle.bits.specs.Bits.{Bytes}
 use Rattle.bits.proofs.ThreeBytes.{field_in_window}
 use native.Mathlib.Omega.{arith}
-use borrow.Author.Rules.{rules}
 use Rattle.bits.proofs.read.Goals as goal
 
 pub returns : goal.returns

@@ -2,7 +2,6 @@
 use mathlib.Core.Path.{sym, ap, ◌∙◌}
 use Rattle.call.specs.Files.{outcome_answer}
 use native.Mathlib.Omega.{arith}
-use borrow.Author.Rules.{rules}
 use Rattle.call.proofs.packed.Goals as goal
 
 pub overflow_cast-k : goal.overflow_cast-k

@@ -2,7 +2,6 @@
 use mathlib.Core.Path.{ap, ◌∙◌}
 use Rattle.call.specs.Answers.{values}
 use native.Mathlib.Omega.{arith}
-use borrow.Author.Rules.{rules}
 use Rattle.run_cells.specs.Part.{cells}
 use Rattle.run_route.proofs.Laying.{readable}
 use Rattle.call_ask.proofs.Asking.{distance_low}

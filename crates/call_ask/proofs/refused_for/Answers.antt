@@ -1,6 +1,5 @@
 -- `refused_for`: what was found, then the node, then the target.
 use mathlib.Core.Path.{sym, ◌∙◌}
-use borrow.Author.Rules.{rules}
 use Rattle.refusal.proofs.Rows.{else_some}
 use Rattle.call_ask.proofs.refused_for.Goals as goal
 

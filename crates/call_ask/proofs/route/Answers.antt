@@ -37,12 +37,11 @@ returns-then-room-k c net finds =
 
 pub lay_way-requires : goal.lay_way-requires
 lay_way-requires c =
-    let ready : Asked (cells c.run.new.s) c.args.node c.args.target = let a = c.args in asks a.found a.node a.target _ c.refused_for-f.ensures c.if-f-ne0.false c.requires a.steps.now _ _ c.run.ensures in
-    (
-  ready,
-  omega (arith, c.lay_way-k.ensures.0, c.if-room-k.false),
-  search rules,
-)
+    let ready : Asked (cells c.run.new.s) c.args.node c.args.target = let a = c.args in asks a.found a.node a.target _ c.refused_for-f.ensures c.if-f-ne0.false c.requires a.steps.now _ _ c.run.ensures in (
+      ready,
+      omega (arith, c.lay_way-k.ensures.0, c.if-room-k.false),
+      search rules,
+    )
 
 pub beside-requires : goal.beside-requires
 beside-requires c =

@@ -1,5 +1,4 @@
 -- `most_taken`: what is laid out is the network meant.
-use borrow.Author.Rules.{rules}
 use Rattle.call_most.proofs.Answered.{refused_answers, most_answers}
 use Rattle.call_most.proofs.most_taken.Goals as goal
 

@@ -2,7 +2,6 @@
 use mathlib.Core.Path.{◌∙◌}
 use Rattle.call_read.proofs.Read.{entry_answer_lem, refused_answer}
 use native.Mathlib.Omega.{arith}
-use borrow.Author.Rules.{rules}
 use Rattle.call_read.proofs.read_entry.Goals as goal
 
 pub values-requires : goal.values-requires

@@ -2,7 +2,6 @@
 use Rattle.call.specs.Files.{outcome_answer}
 use Rattle.call_read.proofs.Read.{table_fits}
 use mathlib.Core.Path.{ap, ◌∙◌}
-use borrow.Author.Rules.{rules}
 use Rattle.call_read.proofs.read_table.Goals as goal
 
 pub packed-requires : goal.packed-requires

@@ -1,6 +1,5 @@
 -- `hand_counts`: four stores fill the room.
 use Rattle.call_run.proofs.Counts.{counts_handed}
-use borrow.Author.Rules.{rules}
 use Rattle.call_run.proofs.hand_counts.Goals as goal
 
 pub returns : goal.returns

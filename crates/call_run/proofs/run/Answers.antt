@@ -21,8 +21,7 @@ run-c-requires c =
 pub hand_rows-requires : goal.hand_rows-requires
 hand_rows-requires c =
     let laid : Laid c.args.found.laid = c.requires c.if-found-ne0.false in
-    let small = laid.accepted.sizes in
-    (
+    let small = laid.accepted.sizes in (
       omega arith,
       c.run-c.ensures.readable,
       search rules,

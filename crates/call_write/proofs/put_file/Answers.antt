@@ -3,7 +3,6 @@ use Prim.Native.Nat.{◌+◌, ◌-◌, ◌*◌}
 use Rattle.run_cells.specs.Part.{targets_at, distances_at, hops_at, part_size}
 use Rattle.call_write.proofs.Held.{fifteen, lent_file_lem, same_written}
 use native.Mathlib.Omega.{arith}
-use borrow.Author.Rules.{rules}
 use Rattle.call_write.proofs.put_file.Goals as goal
 
 pub returns : goal.returns

@@ -1,6 +1,6 @@
 -- `write`: the refusals in order; between 11 and 12 the steps are run.
 use mathlib.Core.Path.{◌≡◌, sym, ◌∙◌}
-use mathlib.Core.Bool.{Bool, false}
+use mathlib.Core.Bool.{false}
 use native.Mathlib.Omega.{arith}
 use borrow.Author.Rules.{rules}
 use Rattle.method.specs.Network.{IsNode}

@@ -1,11 +1,7 @@
 -- `house_table`: the input's two parts are run, and the outcome is written.
-use mathlib.Core.Path.{◌≡◌, refl, ◌∙◌}
-use mathlib.Core.List.{List}
-use Prim.Native.Nat.{ℕ}
+use mathlib.Core.Path.{refl, ◌∙◌}
 use native.Mathlib.Omega.{arith}
 use borrow.Author.Rules.{rules}
-use Rattle.house_text.specs.Lines.{refused_line}
-use Rattle.house.specs.House.{text}
 use Rattle.house.proofs.Parts.{first_size, parts_text}
 use Rattle.house.proofs.Texts.{same_front, refused_text, nodes_few, handed_text}
 use Rattle.house.proofs.house_table.Goals as goal

@@ -1,10 +1,7 @@
 -- `all_lines`: one node's lines more at each turn.
-use Prim.Native.Nat.{◌-◌, ◌≤◌}
 use mathlib.Core.Path.{◌≡◌}
-use lib.ListN.{length}
-use Rattle.house_text.specs.Lines.{rising, node_lines}
+use Rattle.house_text.specs.Lines.{node_lines}
 use Rattle.house_text.specs.Handed.{handed_entry}
-use Rattle.house_words.specs.Writing.{Written}
 use Rattle.house_text.proofs.Rising.{next_has_room, one_more_lem}
 use borrow.Author.Rules.{rules}
 use native.Mathlib.Omega.{arith}

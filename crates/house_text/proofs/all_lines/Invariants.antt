@@ -5,9 +5,6 @@ use lib.ListN.{length}
 use Rattle.house_text.specs.Lines.{rising, node_lines}
 use Rattle.house_text.specs.Handed.{handed_entry}
 use Rattle.house_words.specs.Writing.{Written}
-use Rattle.house_text.proofs.Rising.{next_has_room, one_more_lem}
-use borrow.Author.Rules.{rules}
-use native.Mathlib.Omega.{arith}
 use Rattle.house_text.proofs.all_lines.Given as goal
 
 abbrev pub invariant-loop-i : goal.invariant-loop-i

@@ -2,7 +2,6 @@
 use lib.ListN.{length-append}
 use Rattle.house_words.proofs.Writing.{both}
 use native.Mathlib.Omega.{arith}
-use borrow.Author.Rules.{rules}
 use Rattle.house_text.proofs.counts.Goals as goal
 
 pub numbered-at-requires : goal.numbered-at-requires

@@ -4,7 +4,6 @@ use Rattle.method.specs.Entries.{unknown, unreachable, known}
 use Rattle.house_text.specs.Handed.{entry_by}
 use Rattle.house_words.proofs.Writing.{front, rest, both}
 use native.Mathlib.Omega.{arith}
-use borrow.Author.Rules.{rules}
 use Rattle.house_text.proofs.distance_hop.Goals as goal
 
 pub word-requires : goal.word-requires

@@ -1,5 +1,4 @@
 -- `line`: the entry is read where it stands.
-use borrow.Author.Rules.{rules}
 use Rattle.house_text.proofs.line.Goals as goal
 
 pub entry_line-requires : goal.entry_line-requires

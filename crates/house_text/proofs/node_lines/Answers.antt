@@ -1,10 +1,7 @@
 -- `node_lines`: one target's line more at each turn.
-use Prim.Native.Nat.{◌-◌, ◌≤◌}
 use mathlib.Core.Path.{◌≡◌}
-use lib.ListN.{length}
-use Rattle.house_text.specs.Lines.{entry_line, node_lines}
+use Rattle.house_text.specs.Lines.{entry_line}
 use Rattle.house_text.specs.Handed.{handed_entry}
-use Rattle.house_words.specs.Writing.{Written}
 use Rattle.house_text.proofs.Rising.{next_has_room, one_more_lem}
 use borrow.Author.Rules.{rules}
 use native.Mathlib.Omega.{arith}

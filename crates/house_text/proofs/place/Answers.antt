@@ -4,7 +4,6 @@ use native.Mathlib.Nat.{mul-le-mul}
 use native.Mathlib.Omega.{arith}
 use Rattle.method.specs.Marks as marks
 use Rattle.method.proofs.EntryNumbers.{place_within}
-use borrow.Author.Rules.{rules}
 use Rattle.method.specs.Network.{IsNode}
 use Rattle.house_text.proofs.place.Goals as goal
 

@@ -4,7 +4,6 @@ use Rattle.house_words.specs.Writing.{HasRoom, Written}
 use Rattle.house_words.proofs.Writing.{front, rest, both, at_front}
 use Rattle.house_text.proofs.Short.{refused_short}
 use native.Mathlib.Omega.{arith}
-use borrow.Author.Rules.{rules}
 use Rattle.house_text.proofs.refused.Goals as goal
 
 pub numbered-end-requires : goal.numbered-end-requires

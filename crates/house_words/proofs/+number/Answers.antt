@@ -1,9 +1,8 @@
 -- `number`: the digits of the tenth, and the last digit right after them. The number falls at each call.
-use Prim.Native.Nat.{ℕ, ◌≤◌, ◌<◌}
+use Prim.Native.Nat.{◌≤◌}
 use native.Mathlib.Omega.{arith}
 use Rattle.house_words.proofs.Decimal.{one_digit, more_digits}
 use Rattle.house_words.proofs.Writing.{front, rest, both}
-use borrow.Author.Rules.{rules}
 use Rattle.house_words.proofs.+number.Goals as goal
 
 pub put-requires : goal.put-requires

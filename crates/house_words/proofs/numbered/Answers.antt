@@ -1,6 +1,5 @@
 -- `numbered`: the number right after the word.
 use Rattle.house_words.proofs.Writing.{front, rest, both}
-use borrow.Author.Rules.{rules}
 use Rattle.house_words.proofs.numbered.Goals as goal
 
 pub word-at-requires : goal.word-at-requires

@@ -1,13 +1,8 @@
 -- `word`: one byte more at each turn.
-use Prim.Native.Nat.{◌-◌, ◌≤◌, ◌<◌}
+use Prim.Native.Nat.{◌-◌, ◌≤◌}
 use mathlib.Core.Path.{◌≡◌}
-use native.Mathlib.Numerals.{add-one}
 use lib.ListN.{length, take}
-use lib.Seq.{length-take-le, take-suc, take-length}
 use Rattle.house_words.specs.Writing.{Written}
-use Rattle.house_words.proofs.Writing.{both}
-use borrow.Author.Rules.{rules}
-use native.Mathlib.Omega.{arith}
 use Rattle.house_words.proofs.word.Given as goal
 
 abbrev pub invariant-loop-k : goal.invariant-loop-k

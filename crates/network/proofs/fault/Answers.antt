@@ -2,7 +2,6 @@
 use mathlib.Core.Path.{sym, ◌∙◌}
 use borrow.Author.Tests.{eq-eqb, ne_eqb}
 use Rattle.network.specs.Refusal.{lone_rows}
-use borrow.Author.Rules.{rules}
 use Rattle.network.proofs.fault.Goals as goal
 
 pub returns-then-outside : goal.returns-then-outside

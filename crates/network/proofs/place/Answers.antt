@@ -4,7 +4,6 @@ use Rattle.refusal.proofs.Rows.{number_before}
 use Rattle.network.specs.Refusal.{as_arc, lone_rows}
 use Rattle.network.proofs.Placed.{ends, repeated, new}
 use native.Mathlib.Omega.{arith}
-use borrow.Author.Rules.{rules}
 use Rattle.network.proofs.place.Goals as goal
 
 pub returns-then-f-ne0 : goal.returns-then-f-ne0

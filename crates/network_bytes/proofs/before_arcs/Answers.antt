@@ -3,7 +3,6 @@ use lib.ListN.{length}
 use borrow.Author.Tests.{lt-ltb, le-ltb, eq-eqb, ne_eqb}
 use Rattle.network.specs.Bytes.{version, lmax, fourth, count, size, header_byte_rows}
 use native.Mathlib.Omega.{arith}
-use borrow.Author.Rules.{rules}
 use Rattle.network_bytes.proofs.before_arcs.Goals as goal
 
 pub returns-then-net-lt3 : goal.returns-then-net-lt3

@@ -1,6 +1,5 @@
 -- `check`: what is laid out of bytes that are not refused is their network.
 use mathlib.Core.Path.{sym, ◌∙◌}
-use borrow.Author.Rules.{rules}
 use Rattle.network.proofs.Laws.{checks}
 use Rattle.network_bytes.proofs.check.Goals as goal
 

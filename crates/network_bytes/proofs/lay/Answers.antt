@@ -8,7 +8,6 @@ use Rattle.network.proofs.AsList.{length_arcs}
 use Rattle.network.proofs.WithArc.{length_headed}
 use Rattle.network_bytes.proofs.Whole.{padding_read, refused_early, refused_arcs, past_arcs}
 use native.Mathlib.Omega.{arith}
-use borrow.Author.Rules.{rules}
 use Rattle.network_bytes.proofs.lay.Goals as goal
 
 pub returns-then-early-ne0 : goal.returns-then-early-ne0

@@ -1,11 +1,8 @@
 -- `scan`: the arcs that are left are refused with, and leave laid out, what all of them do.
 use mathlib.Core.Path.{◌≡◌, ◌∙◌}
-use Prim.Native.Nat.{◌+◌, ◌-◌, ◌≤◌}
-use lib.ListN.{length, length-set}
-use Rattle.refusal.specs.Rows.{refused}
+use Prim.Native.Nat.{◌+◌, ◌-◌}
+use lib.ListN.{length-set}
 use Rattle.network.specs.Refusal.{as_arc}
-use Rattle.network.specs.Bytes.{arcs}
-use Rattle.network.specs.Layout.{layout_size}
 use Rattle.network.specs.LaidOut.{with_arcs}
 use Rattle.network.specs.Marks.{marks_rows}
 use Rattle.network.proofs.OneMore.{stops, goes_on, one_more_lem, arc_read, left, none_left, one_less}

@@ -2,7 +2,6 @@
 use mathlib.Core.Path.{sym, ◌∙◌}
 use borrow.Author.Tests.{lt-ltb, le-ltb}
 use Rattle.network.specs.ArcList.{header_list_rows}
-use borrow.Author.Rules.{rules}
 use Rattle.network_list.proofs.before_arcs.Goals as goal
 
 pub returns-then-outside : goal.returns-then-outside

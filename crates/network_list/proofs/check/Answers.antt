@@ -1,5 +1,5 @@
 -- `check`: each record in turn, up to the first that is refused.
-use Rattle.std.proofs.Common.{length, ◌≡◌, ◌≤◌, arith, subst}
+use Rattle.std.proofs.Common.{length, ◌≡◌, arith, subst}
 use Rattle.network_list.proofs.ByRecord.{After, after_none, after_one, after_refusal, whole_found}
 use Rattle.network_list.proofs.check.Goals as goal
 use Rattle.network_list.proofs.check.Goals.{else-loop-f-test, then-loop-f-test+then-arcs-k}
@@ -21,9 +21,9 @@ returns c =
     let l = c.loop-f in
     let whole : After a.n a.lmax a.arcs.now (length a.arcs.now) l.f l.laid =
     elim c.loop-f-test.branch [
-      else-loop-f-test w ↦ after_refusal a.n a.lmax a.arcs.now l.k l.f l.laid l.invariant.1 w.loop-f-test.false
+      | else-loop-f-test w ↦ after_refusal a.n a.lmax a.arcs.now l.k l.f l.laid l.invariant.1 w.loop-f-test.false
       | then-loop-f-test+then-arcs-k w ↦
-        let e : l.k ≡ length a.arcs.now = omega arith in
-        subst (λ k. After a.n a.lmax a.arcs.now k l.f l.laid) e l.invariant.1
+          let e : l.k ≡ length a.arcs.now = omega arith in
+          subst (λ k. After a.n a.lmax a.arcs.now k l.f l.laid) e l.invariant.1
     ] in
     whole_found a.n a.lmax a.arcs.now l.f l.laid whole _ c.finish.ensures.0 c.finish.ensures.1

@@ -2,7 +2,6 @@
 use mathlib.Core.Path.{◌≡◌, refl, sym, ap, ◌∙◌}
 use native.Mathlib.Omega.{arith}
 use lib.ListN.{length, get_or}
-use borrow.Author.Rules.{rules}
 use Rattle.network.specs.Bytes.{size}
 use Rattle.network.specs.Layout.{count_at, net_of, Laid}
 use Rattle.network.proofs.LaidOut.{arc_count}

@@ -1,12 +1,9 @@
 -- `put_arcs`: the arcs that are left, written from byte p on, leave the room as all of them do.
 use mathlib.Core.Path.{◌≡◌, sym, ◌∙◌, subst}
-use Prim.Native.Nat.{ℕ, ◌+◌, ◌-◌, ◌*◌, ◌≤◌}
-use lib.ListN.{length}
-use lib.Seq.{sets}
+use Prim.Native.Nat.{ℕ, ◌+◌, ◌-◌}
 use Rattle.network.specs.Layout.{arcs_from}
 use Rattle.network.specs.Fits.{Fits, AllFit}
-use Rattle.network_pack.specs.Pairs.{pair_bytes}
-use Rattle.network_pack.proofs.Written.{rest, first_fits, others_fit, pair_written, last_written, all_written}
+use Rattle.network_pack.proofs.Written.{first_fits, others_fit, pair_written, last_written, all_written}
 use borrow.Author.Rules.{rules}
 use native.Mathlib.Omega.{arith}
 use Rattle.network_pack.proofs.put_arcs.Goals as goal

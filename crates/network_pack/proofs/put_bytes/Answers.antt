@@ -5,7 +5,6 @@ use lib.Seq.{length-sets}
 use Rattle.network.proofs.LaidOut.{arc_count}
 use Rattle.network_pack.proofs.Written.{sizes, arcs_fit, whole_written}
 use native.Mathlib.Omega.{arith}
-use borrow.Author.Rules.{rules}
 use Rattle.network_pack.proofs.put_bytes.Goals as goal
 
 pub bounds-room-1 : goal.bounds-room-1

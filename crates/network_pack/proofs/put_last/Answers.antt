@@ -1,7 +1,6 @@
 -- `put_last`: two stores, one behind the other.
 use Rattle.network_list.specs.Given.{given}
 use Rattle.network_pack.proofs.Written.{last_stored}
-use borrow.Author.Rules.{rules}
 use Rattle.network_pack.proofs.put_last.Goals as goal
 
 pub returns : goal.returns

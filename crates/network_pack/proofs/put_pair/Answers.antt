@@ -3,7 +3,6 @@ use lib.ListN.{length-set}
 use Rattle.network_list.specs.Given.{given}
 use Rattle.network_pack.proofs.Written.{pair_stored}
 use native.Mathlib.Omega.{arith}
-use borrow.Author.Rules.{rules}
 use Rattle.network_pack.proofs.put_pair.Goals as goal
 
 pub bounds-room-p-2 : goal.bounds-room-p-2

@@ -3,7 +3,7 @@ use mathlib.Core.Path.{◌≡◌, sym, ◌∙◌}
 use Prim.Native.Nat.{◌+◌, ◌/◌, ◌%◌}
 use native.Mathlib.Omega.{arith}
 use borrow.Author.Rules.{rules}
-use borrow.Author.Tests.{eqb-true, eqb-false, not-true, not-false}
+use borrow.Author.Tests.{eqb-true, eqb-false}
 use Rattle.run_cells.specs.Part.{phase_at, waits_at, cells}
 use Rattle.run.proofs.Rested.{i_node, sent_low}
 use Rattle.run.proofs.Acting.{same_place, no_work, waits_elsewhere, delivery_working, chosen_again, works_on_lem}

@@ -1,12 +1,9 @@
 -- `run`: step by step, what is left of the list gives the rest of the run.
 use Rattle.run.proofs.Beginning.{fresh_state, begins}
-use Rattle.run.proofs.Running.{SoFar, counted_le, nothing_done, one_done, all_done}
+use Rattle.run.proofs.Running.{counted_le, nothing_done, one_done, all_done}
 use Rattle.run.specs.Ran.{kind_of, tallied}
-use Rattle.run_cells.specs.Part.{state_size, cells}
-use lib.ListN.{length}
-use mathlib.Core.Path.{◌≡◌, ◌∙◌, sym}
-use Prim.Native.Nat.{◌-◌, ◌≤◌}
-use borrow.Author.Rules.{rules}
+use Rattle.run_cells.specs.Part.{cells}
+use mathlib.Core.Path.{◌∙◌, sym}
 use native.Mathlib.Omega.{arith}
 use Rattle.run.proofs.run.Goals as goal
 

@@ -9,7 +9,6 @@ use mathlib.Core.Path.{sym, ◌∙◌}
 use borrow.Author.Tests.{ltb-true, ltb-false}
 use Prim.Native.Nat.{◌+◌, ◌-◌}
 use native.Mathlib.Omega.{arith}
-use borrow.Author.Rules.{rules}
 use Rattle.run.proofs.step.Goals as goal
 
 pub start-requires : goal.start-requires

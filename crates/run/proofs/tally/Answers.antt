@@ -1,6 +1,5 @@
 -- `tally`: one of three counts.
 use Rattle.run.proofs.Running.{tallies_taken, tallies_idle, tallies_unknown}
-use borrow.Author.Rules.{rules}
 use Rattle.run.proofs.tally.Goals as goal
 
 pub returns-in-Taken : goal.returns-in-Taken

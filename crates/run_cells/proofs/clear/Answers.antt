@@ -1,11 +1,9 @@
 -- `clear`: part by part.
 use Rattle.run_cells.proofs.Cleared.{clear_first, clear_next}
-use Rattle.run_cells.specs.Part.{nodes_most, state_size, cells}
+use Rattle.run_cells.specs.Part.{nodes_most, cells}
 use Rattle.run_cells.specs.Stores.{cleared}
-use lib.ListN.{length}
 use mathlib.Core.Path.{◌≡◌, ◌∙◌, ap}
-use Prim.Native.Nat.{ℕ, ◌-◌, ◌≤◌}
-use borrow.Author.Rules.{rules}
+use Prim.Native.Nat.{ℕ}
 use native.Mathlib.Omega.{arith}
 use Rattle.run_cells.proofs.clear.Goals as goal
 

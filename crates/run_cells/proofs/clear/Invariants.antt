@@ -1,12 +1,9 @@
 -- `clear`: part by part.
-use Rattle.run_cells.proofs.Cleared.{clear_first, clear_next}
 use Rattle.run_cells.specs.Part.{nodes_most, state_size, cells}
 use Rattle.run_cells.specs.Stores.{cleared}
 use lib.ListN.{length}
-use mathlib.Core.Path.{◌≡◌, ◌∙◌, ap}
-use Prim.Native.Nat.{ℕ, ◌-◌, ◌≤◌}
-use borrow.Author.Rules.{rules}
-use native.Mathlib.Omega.{arith}
+use mathlib.Core.Path.{◌≡◌}
+use Prim.Native.Nat.{◌-◌, ◌≤◌}
 use Rattle.run_cells.proofs.clear.Given as goal
 
 abbrev pub invariant-loop-i : goal.invariant-loop-i

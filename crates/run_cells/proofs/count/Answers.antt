@@ -1,6 +1,5 @@
 -- `count`: a load and a store.
 use Rattle.run_cells.proofs.Stored.{count_law}
-use borrow.Author.Rules.{rules}
 use Rattle.run_cells.proofs.count.Goals as goal
 
 pub returns : goal.returns

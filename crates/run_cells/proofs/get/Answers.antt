@@ -3,7 +3,6 @@ use Rattle.run_cells.specs.Part.{part_size}
 use Rattle.run_cells.proofs.Stored.{cell_is}
 use Prim.Native.Nat.{◌+◌, ◌-◌, ◌*◌}
 use native.Mathlib.Omega.{arith}
-use borrow.Author.Rules.{rules}
 use Rattle.run_cells.proofs.get.Goals as goal
 
 pub overflow_cast-result : goal.overflow_cast-result

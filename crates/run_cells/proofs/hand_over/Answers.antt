@@ -3,7 +3,6 @@ use Prim.Native.Nat.{◌+◌, ◌/◌, ◌%◌}
 use Rattle.run_cells.specs.Part.{delivered_at}
 use Rattle.run_cells.proofs.Stored.{next_cell, next_store, count_law}
 use native.Mathlib.Omega.{arith}
-use borrow.Author.Rules.{rules}
 use Rattle.run_cells.proofs.hand_over.Goals as goal
 
 pub overflow_add-s : goal.overflow_add-s

@@ -5,7 +5,6 @@ use lib.Dec.{ltb}
 use Rattle.run_cells.specs.Part.{delivered_at, sent_count}
 use Rattle.run_cells.proofs.Stored.{next_cell}
 use native.Mathlib.Omega.{arith}
-use borrow.Author.Rules.{rules}
 use Rattle.run_cells.proofs.has_more.Goals as goal
 
 pub returns : goal.returns

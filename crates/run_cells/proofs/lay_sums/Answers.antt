@@ -1,12 +1,10 @@
 -- `lay_sums`: head by head.
 use Rattle.run_cells.proofs.Cleared.{lay_first, lay_next, first_sum}
-use Rattle.run_cells.specs.Part.{table_size, state_size, cells}
+use Rattle.run_cells.specs.Part.{table_size, cells}
 use Rattle.run_cells.specs.Stores.{Stored, with_sums}
 use Rattle.network.specs.Layout.{len_at}
-use lib.ListN.{length}
 use mathlib.Core.Path.{◌≡◌, ◌∙◌, subst}
-use Prim.Native.Nat.{ℕ, ◌-◌, ◌≤◌}
-use borrow.Author.Rules.{rules}
+use Prim.Native.Nat.{ℕ}
 use native.Mathlib.Omega.{arith}
 use Rattle.run_cells.proofs.lay_sums.Goals as goal
 

@@ -3,7 +3,6 @@ use mathlib.Core.Path.{sym, ap, ◌∙◌}
 use Rattle.network.specs.Layout.{len_at}
 use Rattle.network.proofs.WithArc.{cell, len_is, len_none}
 use native.Mathlib.Omega.{arith}
-use borrow.Author.Rules.{rules}
 use Rattle.run_cells.proofs.length_of.Goals as goal
 
 pub returns-then-h-eq0 : goal.returns-then-h-eq0

@@ -1,6 +1,5 @@
 -- `note`: six stores.
 use Rattle.run_cells.proofs.Stored.{note_law}
-use borrow.Author.Rules.{rules}
 use Rattle.run_cells.proofs.note.Goals as goal
 
 pub returns : goal.returns

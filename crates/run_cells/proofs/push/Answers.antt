@@ -1,6 +1,5 @@
 -- `push`: the message, then the number of messages.
 use Rattle.run_cells.proofs.Stored.{push_law}
-use borrow.Author.Rules.{rules}
 use Rattle.run_cells.proofs.push.Goals as goal
 
 pub returns : goal.returns

@@ -1,7 +1,6 @@
 -- `put`: all index arithmetic of stores.
 use Rattle.run_cells.proofs.Stored.{store}
 use native.Mathlib.Omega.{arith}
-use borrow.Author.Rules.{rules}
 use Rattle.run_cells.proofs.put.Goals as goal
 
 pub returns : goal.returns

@@ -1,7 +1,6 @@
 -- `send_length`: sent, or the last already.
 use Rattle.run_cells.proofs.Stored.{send_law, unsent_law}
 use native.Mathlib.Omega.{arith}
-use borrow.Author.Rules.{rules}
 use Rattle.run_cells.proofs.send_length.Goals as goal
 
 pub returns-then-last-x : goal.returns-then-last-x

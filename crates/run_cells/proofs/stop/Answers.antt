@@ -1,6 +1,5 @@
 -- `stop`: the end, then the phase.
 use Rattle.run_cells.proofs.Stored.{stop_law}
-use borrow.Author.Rules.{rules}
 use Rattle.run_cells.proofs.stop.Goals as goal
 
 pub returns : goal.returns

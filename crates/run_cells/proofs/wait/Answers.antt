@@ -1,6 +1,5 @@
 -- `wait`: the length, then the head waited for.
 use Rattle.run_cells.proofs.Stored.{wait_law}
-use borrow.Author.Rules.{rules}
 use Rattle.run_cells.proofs.wait.Goals as goal
 
 pub returns : goal.returns

@@ -5,7 +5,6 @@ use lib.Dec.{eqb}
 use Rattle.run_cells.specs.Part.{part_size, waits_at}
 use Rattle.run_cells.proofs.Stored.{next_cell}
 use native.Mathlib.Omega.{arith}
-use borrow.Author.Rules.{rules}
 use Rattle.run_cells.proofs.waits_for.Goals as goal
 
 pub overflow_cast-result : goal.overflow_cast-result

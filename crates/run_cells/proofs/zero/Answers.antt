@@ -1,11 +1,9 @@
 -- `zero`: number by number.
 use Rattle.run_cells.proofs.Cleared.{zero_first, zero_next}
-use Rattle.run_cells.specs.Part.{targets_at, state_size, cells}
+use Rattle.run_cells.specs.Part.{targets_at, cells}
 use Rattle.run_cells.specs.Stores.{Stored, zeroed}
-use lib.ListN.{length}
 use mathlib.Core.Path.{◌≡◌, ◌∙◌, subst}
-use Prim.Native.Nat.{ℕ, ◌-◌, ◌≤◌}
-use borrow.Author.Rules.{rules}
+use Prim.Native.Nat.{ℕ}
 use native.Mathlib.Omega.{arith}
 use Rattle.run_cells.proofs.zero.Goals as goal
 

@@ -4,8 +4,7 @@ use Rattle.run_entries.proofs.Reading.{stopped_next}
 use Rattle.method.specs.Entries.{stopped_to}
 use Rattle.run_cells.specs.Part.{cells, state_of}
 use mathlib.Core.Path.{◌≡◌, ◌∙◌, ap, refl}
-use Prim.Native.Nat.{ℕ, ◌-◌, ◌≤◌}
-use borrow.Author.Rules.{rules}
+use Prim.Native.Nat.{ℕ}
 use native.Mathlib.Omega.{arith}
 use Rattle.run_entries.proofs.count_stopped.Goals as goal
 

@@ -1,12 +1,8 @@
 -- `count_stopped`: node by node.
-use Rattle.method.proofs.StoppedCount.{stopped_le}
-use Rattle.run_entries.proofs.Reading.{stopped_next}
 use Rattle.method.specs.Entries.{stopped_to}
 use Rattle.run_cells.specs.Part.{cells, state_of}
-use mathlib.Core.Path.{◌≡◌, ◌∙◌, ap, refl}
-use Prim.Native.Nat.{ℕ, ◌-◌, ◌≤◌}
-use borrow.Author.Rules.{rules}
-use native.Mathlib.Omega.{arith}
+use mathlib.Core.Path.{◌≡◌}
+use Prim.Native.Nat.{◌-◌, ◌≤◌}
 use Rattle.run_entries.proofs.count_stopped.Given as goal
 
 abbrev pub invariant-loop-i : goal.invariant-loop-i

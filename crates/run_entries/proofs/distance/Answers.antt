@@ -3,7 +3,6 @@ use Rattle.run_entries.proofs.Reading.{filled_distance, no_distance}
 use Rattle.run_cells.specs.Part.{cells}
 use mathlib.Core.Path.{◌∙◌, sym}
 use native.Mathlib.Omega.{arith}
-use borrow.Author.Rules.{rules}
 use Rattle.run_entries.proofs.distance.Goals as goal
 
 pub get-requires : goal.get-requires

@@ -2,7 +2,6 @@
 use Rattle.run_entries.proofs.Reading.{filled_hop, no_hop_lem}
 use Rattle.run_cells.specs.Part.{cells}
 use native.Mathlib.Omega.{arith}
-use borrow.Author.Rules.{rules}
 use Rattle.run_entries.proofs.first_hop.Goals as goal
 
 pub returns-then-k-eq0 : goal.returns-then-k-eq0

@@ -4,7 +4,6 @@ use mathlib.Core.Path.{◌∙◌, ap}
 use Prim.Native.Nat.{ℕ}
 use lib.Dec.{ltb}
 use Rattle.run_cells.specs.Part.{phase_at, cells}
-use borrow.Author.Rules.{rules}
 use Rattle.run_entries.proofs.has_stopped.Goals as goal
 
 pub returns : goal.returns

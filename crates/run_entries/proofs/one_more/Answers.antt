@@ -1,6 +1,5 @@
 -- `one_more`: by the test.
 use native.Mathlib.Omega.{arith}
-use borrow.Author.Rules.{rules}
 use Rattle.run_entries.proofs.one_more.Goals as goal
 
 pub returns-then-test : goal.returns-then-test

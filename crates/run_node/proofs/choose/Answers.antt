@@ -3,8 +3,7 @@ use Rattle.run_node.proofs.Halves.{arc_to, after, least_suc, after_suc, halves, 
 use Rattle.run_node.specs.Rules.{least}
 use Rattle.run_cells.specs.Part.{Part, sums_at, cells}
 use mathlib.Core.Path.{◌≡◌, ◌∙◌, ap, refl}
-use Prim.Native.Nat.{ℕ, ◌+◌, ◌-◌, ◌≤◌}
-use borrow.Author.Rules.{rules}
+use Prim.Native.Nat.{ℕ, ◌+◌}
 use native.Mathlib.Omega.{arith}
 use Rattle.run_node.proofs.choose.Goals as goal
 

@@ -1,11 +1,9 @@
 -- `choose`: head by head the least so far of each half, then the lesser of both.
-use Rattle.run_node.proofs.Halves.{arc_to, after, least_suc, after_suc, halves, lesser_is}
+use Rattle.run_node.proofs.Halves.{after}
 use Rattle.run_node.specs.Rules.{least}
-use Rattle.run_cells.specs.Part.{Part, sums_at, cells}
-use mathlib.Core.Path.{◌≡◌, ◌∙◌, ap, refl}
-use Prim.Native.Nat.{ℕ, ◌+◌, ◌-◌, ◌≤◌}
-use borrow.Author.Rules.{rules}
-use native.Mathlib.Omega.{arith}
+use Rattle.run_cells.specs.Part.{cells}
+use mathlib.Core.Path.{◌≡◌}
+use Prim.Native.Nat.{◌-◌, ◌≤◌}
 use Rattle.run_node.proofs.choose.Given as goal
 
 abbrev pub invariant-loop-h : goal.invariant-loop-h

@@ -1,14 +1,10 @@
 -- `work_from`: both loops keep that the work from here on is the work from the start; the outer one also, that the arc is rule 1's.
-use Rattle.run_node.proofs.Limits.{i_node, sent_low}
-use Rattle.run_node.proofs.Loops.{left, pick, Going, going_refl, going_trans, going_worked, going_working, chosen, stopped_there}
-use Rattle.run_node.proofs.Loops.{able_there, waited_there, again₃, again₁}
+use Rattle.run_node.proofs.Loops.{left, pick, Going}
 use Rattle.run_node.specs.Rules.{IsChoice}
 use Rattle.method.specs.Rules.{to₁, to₃}
 use Rattle.run_cells.specs.Part.{state_size, cells}
 use lib.ListN.{length}
-use mathlib.Core.Path.{◌≡◌, ◌∙◌, sym, refl}
-use borrow.Author.Rules.{rules}
-use native.Mathlib.Omega.{arith}
+use mathlib.Core.Path.{◌≡◌}
 use Rattle.run_node.proofs.work_from.Given as goal
 
 abbrev pub invariant-take : goal.invariant-take

@@ -1,7 +1,5 @@
 -- `follow`: at the target, or one hop and the rest of the way.
 use native.Mathlib.Omega.{arith}
-use mathlib.Core.Path.{◌∙◌}
-use lib.ListN.{length-set}
 use Rattle.run_cells.specs.Part.{cells}
 use Rattle.run_route.proofs.Laying.{readable, arrives, onward, nears, h_low, inside, room_left, written}
 use Rattle.run_route.proofs.+follow.Goals as goal

@@ -2,8 +2,6 @@
 use Rattle.run_route.proofs.Laying.{readable, says_unknown, says_unreachable, says_filled, fits, way_laid}
 use Rattle.run_cells.specs.Part.{cells}
 use mathlib.Core.Path.{sym, ◌∙◌}
-use native.Mathlib.Omega.{arith}
-use borrow.Author.Rules.{rules}
 use Rattle.run_route.proofs.lay_way.Goals as goal
 
 pub distance-d-requires : goal.distance-d-requires

@@ -3,7 +3,6 @@ use native.Mathlib.Numerals.{add-one}
 use lib.ListN.{set}
 use mathlib.Core.Path.{ap}
 use Prim.Native.Nat.{ℕ}
-use borrow.Author.Rules.{rules}
 use Rattle.run_rows.proofs.hand_entry.Goals as goal
 
 pub returns : goal.returns

@@ -1,14 +1,11 @@
 -- `hand_row`: one target's entry more at each turn.
-use Rattle.run_rows.proofs.Handing.{cells_small, hop_small, row_next}
 use Rattle.run_cells.specs.Part.{cells, state_of}
 use Rattle.method.specs.Marks.{entry_numbers}
 use Rattle.method.specs.Entries.{entry_of}
 use lib.Seq.{sets}
 use lib.ListN.{length}
-use mathlib.Core.Path.{◌≡◌, refl}
-use Prim.Native.Nat.{◌+◌, ◌-◌, ◌≤◌}
-use borrow.Author.Rules.{rules}
-use native.Mathlib.Omega.{arith}
+use mathlib.Core.Path.{◌≡◌}
+use Prim.Native.Nat.{◌-◌, ◌≤◌}
 use Rattle.run_rows.proofs.hand_row.Given as goal
 
 abbrev pub invariant-loop-k : goal.invariant-loop-k

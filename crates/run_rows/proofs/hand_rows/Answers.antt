@@ -1,10 +1,7 @@
 -- `hand_rows`: one node's row more at each turn.
-use Prim.Native.Nat.{◌+◌, ◌-◌, ◌≤◌}
+use Prim.Native.Nat.{◌+◌}
 use mathlib.Core.Path.{◌≡◌, refl}
-use lib.ListN.{length}
-use lib.Seq.{sets}
 use Rattle.method.specs.Entries.{entry_of}
-use Rattle.method.specs.Marks.{row_numbers}
 use Rattle.run_cells.specs.Part.{cells, state_of}
 use Rattle.run_rows.proofs.Handing.{rows_next, row_within}
 use borrow.Author.Rules.{rules}

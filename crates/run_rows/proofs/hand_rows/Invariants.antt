@@ -1,14 +1,11 @@
 -- `hand_rows`: one node's row more at each turn.
-use Prim.Native.Nat.{◌+◌, ◌-◌, ◌≤◌}
-use mathlib.Core.Path.{◌≡◌, refl}
+use Prim.Native.Nat.{◌-◌, ◌≤◌}
+use mathlib.Core.Path.{◌≡◌}
 use lib.ListN.{length}
 use lib.Seq.{sets}
 use Rattle.method.specs.Entries.{entry_of}
 use Rattle.method.specs.Marks.{row_numbers}
 use Rattle.run_cells.specs.Part.{cells, state_of}
-use Rattle.run_rows.proofs.Handing.{rows_next, row_within}
-use borrow.Author.Rules.{rules}
-use native.Mathlib.Omega.{arith}
 use Rattle.run_rows.proofs.hand_rows.Given as goal
 
 abbrev pub invariant-loop-i : goal.invariant-loop-i

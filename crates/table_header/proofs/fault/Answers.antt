@@ -5,7 +5,6 @@ use borrow.Author.Tests.{lt-ltb, le-ltb, eq-eqb, ne_eqb}
 use Rattle.bits.specs.Bits.{bits_of, field}
 use Rattle.table.specs.Reader.{header_at, header_rows}
 use native.Mathlib.Omega.{arith}
-use borrow.Author.Rules.{rules}
 use Rattle.table_header.proofs.fault.Goals as goal
 
 pub returns-then-file-lt2 : goal.returns-then-file-lt2

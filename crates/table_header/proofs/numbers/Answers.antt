@@ -1,7 +1,6 @@
 -- `numbers`: its half bytes are the definition's fields.
 use Rattle.table_header.proofs.Sound.{sound_two, header_is}
 use native.Mathlib.Omega.{arith}
-use borrow.Author.Rules.{rules}
 use Rattle.table_header.proofs.numbers.Goals as goal
 
 pub nibble-requires : goal.nibble-requires

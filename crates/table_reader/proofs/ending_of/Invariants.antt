@@ -1,14 +1,10 @@
 -- `ending_of`: where the cursor stops, all records are met.
-use mathlib.Core.Path.{◌∙◌}
-use mathlib.Core.List.{List, []}
+use mathlib.Core.List.{List}
 use Prim.Native.Nat.{◌-◌}
 use Rattle.bits.specs.Bits.{bits_of}
 use Rattle.method.specs.Rules.{Filled}
 use Rattle.table.specs.File.{one}
 use Rattle.table_records.specs.Walk.{At}
-use Rattle.table_records.proofs.Loops.{begins, narrow, nearer, goes_on, wrong_stands, wrong_ends, nothing_ends}
-use borrow.Author.Rules.{rules}
-use native.Mathlib.Omega.{arith}
 use Rattle.table_reader.proofs.ending_of.Given as goal
 
 abbrev pub invariant-loop-after : goal.invariant-loop-after

@@ -1,7 +1,6 @@
 -- `put_absent`: one mark more at each turn.
 use mathlib.Core.Path.{◌≡◌, refl, ◌∙◌}
-use Prim.Native.Nat.{◌+◌, ◌-◌, suc, ◌≤◌}
-use lib.ListN.{length}
+use Prim.Native.Nat.{◌+◌, suc}
 use Rattle.table_reader.specs.Listing.{with_absent}
 use native.Mathlib.Omega.{arith}
 use borrow.Author.Rules.{rules}

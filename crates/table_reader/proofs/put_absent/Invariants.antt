@@ -1,10 +1,8 @@
 -- `put_absent`: one mark more at each turn.
-use mathlib.Core.Path.{◌≡◌, refl, ◌∙◌}
-use Prim.Native.Nat.{◌+◌, ◌-◌, suc, ◌≤◌}
+use mathlib.Core.Path.{◌≡◌}
+use Prim.Native.Nat.{◌-◌, ◌≤◌}
 use lib.ListN.{length}
 use Rattle.table_reader.specs.Listing.{with_absent}
-use native.Mathlib.Omega.{arith}
-use borrow.Author.Rules.{rules}
 use Rattle.table_reader.proofs.put_absent.Given as goal
 
 abbrev pub invariant-loop-y : goal.invariant-loop-y

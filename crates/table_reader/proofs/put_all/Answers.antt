@@ -4,7 +4,6 @@ use Prim.Native.Nat.{◌*◌}
 use lib.ListN.{length}
 use borrow.Author.Tests.{lt-ltb, le-ltb}
 use native.Mathlib.Omega.{arith}
-use borrow.Author.Rules.{rules}
 use Rattle.table_reader.proofs.put_all.Goals as goal
 
 pub overflow_mul-size : goal.overflow_mul-size

@@ -3,7 +3,6 @@ use mathlib.Core.Path.{◌≡◌}
 use Prim.Native.Nat.{suc, ◌+◌, ◌-◌, ◌*◌}
 use lib.Seq.{lt-length-set}
 use native.Mathlib.Omega.{arith}
-use borrow.Author.Rules.{rules}
 use Rattle.table_reader.proofs.put_entry.Goals as goal
 
 pub bounds-room-k-2 : goal.bounds-room-k-2

@@ -1,12 +1,8 @@
 -- `put_known`: the room has the records met so far.
-use mathlib.Core.Path.{◌≡◌, refl, sym, ◌∙◌, ap}
+use mathlib.Core.Path.{refl, sym, ◌∙◌, ap}
 use mathlib.Core.List.{List, []}
-use Prim.Native.Nat.{◌-◌}
 use Rattle.bits.specs.Bits.{bits_of}
 use Rattle.method.specs.Rules.{Filled}
-use Rattle.table.specs.File.{one}
-use Rattle.table_records.specs.Walk.{At}
-use lib.ListN.{length}
 use Rattle.table_records.proofs.Loops.{begins, narrow, nearer, goes_on, wrong_taken, nothing_taken}
 use Rattle.table_reader.specs.Listing.{with_records}
 use Rattle.table_reader.proofs.Listed.{one_more}

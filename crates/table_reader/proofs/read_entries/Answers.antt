@@ -9,7 +9,6 @@ use Rattle.call.specs.Files.{entries_outcome, table_room}
 use Rattle.table.specs.declared.Outcome.TheVariants.{Refused}
 use Rattle.table_records.proofs.SoundHeader.{fault_refuses}
 use Rattle.table_reader.proofs.AllRead.{all_read, all_refused}
-use borrow.Author.Rules.{rules}
 use Rattle.table_reader.proofs.read_entries.Goals as goal
 
 -- a refused file leaves the room as it was

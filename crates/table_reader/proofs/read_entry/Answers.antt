@@ -6,7 +6,6 @@ use Rattle.table_reader.specs.Code.{answer_of}
 use Rattle.table.specs.declared.Ending.TheVariants.{Unfinished, Marked, Faulty}
 use Rattle.table_records.proofs.SoundHeader.{fault_refuses}
 use Rattle.table_reader.proofs.Answering.{scan_answers}
-use borrow.Author.Rules.{rules}
 use Rattle.table_reader.proofs.read_entry.Goals as goal
 
 pub returns-then-fault-ne0 : goal.returns-then-fault-ne0

@@ -1,14 +1,9 @@
 -- `scan`: the records met so far tell of the target what they tell in all where they end.
 use mathlib.Core.Path.{◌∙◌}
-use mathlib.Core.List.{List, []}
-use Prim.Native.Nat.{◌-◌}
+use mathlib.Core.List.{[]}
 use Rattle.bits.specs.Bits.{bits_of}
-use Rattle.method.specs.Rules.{Filled}
-use Rattle.table.specs.File.{one}
-use Rattle.table_records.specs.Walk.{At}
 use Rattle.table_records.proofs.Loops.{begins, narrow, nearer, goes_on, wrong_stands, wrong_taken, wrong_ends, nothing_taken, nothing_ends}
-use Rattle.table_reader.proofs.Found.{Found, found_none, found_next, tells}
-use borrow.Author.Rules.{rules}
+use Rattle.table_reader.proofs.Found.{found_none, found_next, tells}
 use native.Mathlib.Omega.{arith}
 use Rattle.table_reader.proofs.scan.Goals as goal
 

@@ -8,7 +8,6 @@ use Rattle.table.specs.Reader.{end_rows}
 use Rattle.table_records.specs.Parts.{ending_at}
 use Rattle.table_records.proofs.ByteRest.{begins_with_1, begins_with_0}
 use native.Mathlib.Omega.{arith}
-use borrow.Author.Rules.{rules}
 use Rattle.table_records.proofs.ending_at.Goals as goal
 
 pub returns-then-file-p : goal.returns-then-file-p

@@ -1,7 +1,6 @@
 -- `field_place`: each field's place.
 use borrow.Author.Tests.{eq-eqb, ne_eqb}
 use native.Mathlib.Omega.{arith}
-use borrow.Author.Rules.{rules}
 use Rattle.table_records.proofs.field_place.Goals as goal
 
 pub returns-then-field-eq1 : goal.returns-then-field-eq1

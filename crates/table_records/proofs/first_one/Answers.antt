@@ -1,10 +1,7 @@
 -- `first_one`: the bits that are left tell what all do.
-use mathlib.Core.Path.{◌≡◌, sym, ◌∙◌}
-use Prim.Native.Nat.{◌+◌, ◌≤◌}
+use mathlib.Core.Path.{sym, ◌∙◌}
 use Rattle.bits.specs.Bits.{bits_of}
-use Rattle.table.specs.Reader.{first_one}
 use Rattle.table_records.proofs.FirstOne.{found, passed, none_left}
-use borrow.Author.Rules.{rules}
 use native.Mathlib.Omega.{arith}
 use Rattle.table_records.proofs.first_one.Goals as goal
 

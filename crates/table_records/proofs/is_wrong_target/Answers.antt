@@ -1,6 +1,5 @@
 -- `is_wrong_target`: each test, in its order.
 use borrow.Author.Tests.{lt-ltb, le-ltb, eq-eqb, ne_eqb}
-use borrow.Author.Rules.{rules}
 use native.Mathlib.Omega.{arith}
 use Rattle.table_records.proofs.is_wrong_target.Goals as goal
 

@@ -2,7 +2,6 @@
 use Rattle.table_records.proofs.Walk.{at_nothing}
 use Rattle.table_records.proofs.Thirteen.{not_there, met_wrong, met_record}
 use native.Mathlib.Omega.{arith}
-use borrow.Author.Rules.{rules}
 use Rattle.table_records.proofs.next.Goals as goal
 
 pub returns-then-x-lt4096 : goal.returns-then-x-lt4096

@@ -8,7 +8,6 @@ use Rattle.bits.proofs.Bytes.{length_bits}
 use Rattle.bits.proofs.ThreeBytes.{field_in_window, field_in_two}
 use Rattle.table_records.specs.Parts.{bits_standing}
 use native.Mathlib.Omega.{arith}
-use borrow.Author.Rules.{rules}
 use Rattle.table_records.proofs.record_at.Goals as goal
 
 pub returns-then-k-file : goal.returns-then-k-file

@@ -5,7 +5,6 @@ use lib.ListN.{get_or}
 use Rattle.bits.specs.Bits.{Bytes}
 use Rattle.bits.proofs.ThreeBytes.{field_in_byte}
 use native.Mathlib.Omega.{arith}
-use borrow.Author.Rules.{rules}
 use Rattle.table_records.proofs.rest_of_byte.Goals as goal
 
 pub overflow_cast-result : goal.overflow_cast-result

@@ -1,7 +1,6 @@
 -- `wrong_field`: the rows of refusal 17, in their order.
 use mathlib.Core.Path.{sym, ◌∙◌}
 use Rattle.table.specs.Reader.{field_rows}
-use borrow.Author.Rules.{rules}
 use Rattle.table_records.proofs.wrong_field.Goals as goal
 
 pub returns-then-is_wrong_target : goal.returns-then-is_wrong_target

@@ -8,7 +8,6 @@ use Rattle.table.specs.File.{one}
 use Rattle.table.proofs.Walk.{stands_fits}
 use Rattle.table_records.proofs.Walk.{fields_are, place_of}
 use native.Mathlib.Omega.{arith}
-use borrow.Author.Rules.{rules}
 use Rattle.table_records.proofs.wrong_place.Goals as goal
 
 pub read-target-requires : goal.read-target-requires

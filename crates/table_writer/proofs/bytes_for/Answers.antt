@@ -1,5 +1,4 @@
 -- `bytes_for`: by whether the node has stopped.
-use borrow.Author.Rules.{rules}
 use Rattle.table_writer.proofs.bytes_for.Goals as goal
 
 pub returns-then-stopped : goal.returns-then-stopped

@@ -3,7 +3,6 @@ use lib.Seq.{lt-length-set}
 use borrow.Author.Tests.{le-leb, lt-leb}
 use Rattle.table_writer.specs.Code.{flushed}
 use native.Mathlib.Omega.{arith}
-use borrow.Author.Rules.{rules}
 use Rattle.table_writer.proofs.flush.Goals as goal
 
 pub bounds-room-k-then-n-ge16 : goal.bounds-room-k-then-n-ge16

@@ -5,7 +5,6 @@ use lib.ListN.{length}
 use borrow.Author.Tests.{eq-eqb, ne_eqb}
 use Rattle.table_writer.specs.Code.{finished}
 use native.Mathlib.Omega.{arith}
-use borrow.Author.Rules.{rules}
 use Rattle.table_writer.proofs.put_end.Goals as goal
 
 pub overflow_mul-held : goal.overflow_mul-held

@@ -1,9 +1,8 @@
 -- `put_records`: a turn adds one record's bits and stores the whole bytes.
 use mathlib.Core.Path.{◌≡◌, ◌∙◌, ap}
-use Prim.Native.Nat.{ℕ, ◌-◌, ◌≤◌}
-use lib.ListN.{length}
+use Prim.Native.Nat.{ℕ, ◌-◌}
 use Rattle.table_writer.specs.Code.{three_fields}
-use Rattle.table_writer.proofs.Writing.{Putting, putting_start, putting_next}
+use Rattle.table_writer.proofs.Writing.{putting_start, putting_next}
 use native.Mathlib.Omega.{arith}
 use borrow.Author.Rules.{rules}
 use Rattle.table_writer.proofs.put_records.Goals as goal

@@ -1,11 +1,8 @@
 -- `put_records`: a turn adds one record's bits and stores the whole bytes.
-use mathlib.Core.Path.{◌≡◌, ◌∙◌, ap}
-use Prim.Native.Nat.{ℕ, ◌-◌, ◌≤◌}
+use mathlib.Core.Path.{◌≡◌}
+use Prim.Native.Nat.{◌-◌, ◌≤◌}
 use lib.ListN.{length}
-use Rattle.table_writer.specs.Code.{three_fields}
-use Rattle.table_writer.proofs.Writing.{Putting, putting_start, putting_next}
-use native.Mathlib.Omega.{arith}
-use borrow.Author.Rules.{rules}
+use Rattle.table_writer.proofs.Writing.{Putting}
 use Rattle.table_writer.proofs.put_records.Given as goal
 
 abbrev pub invariant-loop-k : goal.invariant-loop-k

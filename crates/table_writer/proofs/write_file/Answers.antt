@@ -12,7 +12,6 @@ use Rattle.table.specs.declared.Outcome.TheVariants.{Written}
 use Rattle.table.proofs.Sizes.{end_after}
 use Rattle.table_writer.proofs.Writing.{listed_size, listed_written}
 use native.Mathlib.Omega.{arith}
-use borrow.Author.Rules.{rules}
 use Rattle.table_writer.proofs.write_file.Goals as goal
 
 pub overflow_mul-p : goal.overflow_mul-p

@@ -1,6 +1,5 @@
 -- `zaq_check_network`: what was found of the bytes goes to `refusal`.
 use mathlib.Core.Path.{◌∙◌}
-use borrow.Author.Rules.{rules}
 use Rattle.zaqfinell.proofs.zaq_check_network.Goals as goal
 
 pub returns : goal.returns

@@ -1,5 +1,4 @@
 -- `zaq_entry`: what was found of the bytes goes to `entry`.
-use borrow.Author.Rules.{rules}
 use Rattle.zaqfinell.proofs.zaq_entry.Goals as goal
 
 pub entry-requires : goal.entry-requires

@@ -1,5 +1,4 @@
 -- `zaq_most_taken`: what was found of the bytes goes to `most_taken`.
-use borrow.Author.Rules.{rules}
 use Rattle.zaqfinell.proofs.zaq_most_taken.Goals as goal
 
 pub most_taken-requires : goal.most_taken-requires

@@ -1,5 +1,4 @@
 -- `zaq_route`: what was found of the bytes goes to `route`.
-use borrow.Author.Rules.{rules}
 use Rattle.zaqfinell.proofs.zaq_route.Goals as goal
 
 pub route-requires : goal.route-requires

@@ -1,5 +1,4 @@
 -- `zaq_run`: what was found of the bytes goes to `run`.
-use borrow.Author.Rules.{rules}
 use Rattle.zaqfinell.proofs.zaq_run.Goals as goal
 
 pub run-requires : goal.run-requires

@@ -1,5 +1,4 @@
 -- `zaq_write_table`: what was found of the bytes goes to `write`.
-use borrow.Author.Rules.{rules}
 use Rattle.zaqfinell.proofs.zaq_write_table.Goals as goal
 
 pub write-requires : goal.write-requires
