@@ -11,12 +11,12 @@ choose_target() {
     armv7-*)
         # some chips with hard floats have no NEON. LLVM cannot probe the stack on ARM of 32 bits
         choices+=(-mfpu=vfpv3-d16)
-        drops='target-cpu|probe-stack'
+        drops='target-cpu|probe-stack|stack-probe-size'
         ;;
     thumbv7em-*)
         # memcpy and memset by these names; and nothing that a chip which is told to trap unaligned loads would trap
         choices+=(-meabi gnu -mno-unaligned-access)
-        drops='target-cpu|probe-stack'
+        drops='target-cpu|probe-stack|stack-probe-size'
         ;;
     esac
 }
