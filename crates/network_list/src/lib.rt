@@ -68,7 +68,9 @@ fn finish(f: u32, laid: [u8; LAYOUT]) -> Found
     Found { refused: f, laid }
 }
 
-// What the check finds of an arc list: each arc goes to `add`, up to the first that is refused.
+// What the check finds of an arc list: each arc goes to `add`, up to the first that is refused. It stays a function of its own: where LLVM
+// put it into the calls that run steps, two of them took more than their 8 KiB of stack.
+#[inline(never)]
 pub fn check(n: u8, lmax: u8, arcs: &[Arc]) -> Found
     ensures { Finds (from_arcs n lmax arcs.now) result }
 {
