@@ -1,8 +1,8 @@
 #!/usr/bin/env bash
-# Nothing is assumed: reads what `rt ci` printed and holds each crate's verdict to it. Every crate of crates.txt is proved from nothing, in that
-# run or, where the toolchain says that it is kept, in an earlier one on this machine over the same files, and no verdict names an axiom. What
-# is linked is asked once more, since only there the toolchain tells what the linked code reaches: the library nothing, and the program
-# house_table what the kit says of C's read and write, and of a program's arguments.
+# Nothing is assumed: reads what `rt ci` printed and holds each crate's verdict to it. Every crate of crates.txt is proved from nothing, in
+# that run or, where the toolchain says that it is kept, in an earlier one on this machine over the same files, and no verdict names an
+# axiom. What is linked is asked once more, since only there the toolchain tells what the linked code reaches: the library nothing, and the
+# program house_table what the kit says of C's read and write, and of a program's arguments.
 # usage: axioms.sh LOG    LOG is what `rt ci` printed
 log=${1:-}
 [ -f "$log" ] && log=$(cd "$(dirname "$log")" && pwd)/$(basename "$log")
