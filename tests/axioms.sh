@@ -29,7 +29,7 @@ allowed_to() {
 
 held() { # held VERDICT AXIOMS ALLOWED: proved, and with no other axioms than the allowed ones; how many are declared is no matter
     [ "${1%% *}" = logic=proved ] || return 1
-    [[ "$1" != *foreign=* ]] || return 1
+    [[ ! "$1" =~ (foreign|partial|may-abort|may-wait|hides|bugs|holes)= ]] || return 1
     if [ -z "$3" ]; then [[ "$1" != *axioms* ]] && [ -z "$2" ]; else [ "$(sed 's/ ([^)]*)//g' <<< "$2")" = "$3" ]; fi
 }
 

@@ -1,6 +1,6 @@
 #!/usr/bin/env bash
-# House table with an exit status: 0, or 1 where the input is refused, or 2 where a read or a write failed or it has arguments. A program in
-# Rattle always ends with status 0, so the status is told by what target/bin/house_table says on standard error.
+# House table with an exit status: 0, or 1 where the input is refused, or 2 where a read or a write failed or it has arguments. The program
+# always ends with status 0, so the status is told by what target/bin/house_table says on standard error.
 # usage: house_table.sh < INPUT
 set -u
 . "$(dirname "$0")/host.sh"

@@ -1,6 +1,7 @@
 #!/usr/bin/env bash
 # Proves the library and builds target/staticlib/libzaqfinell.a: a line for each crate as soon as it is proved. A crate that has not changed
-# is not proved again. All that the toolchain says is in target/prove.log, and is shown if something is not proved.
+# is not proved again. All that the toolchain says is in target/prove.log, and is shown if something is not proved. The code is for every
+# x86-64 processor; the toolchain's default asks for a newer one.
 set -eu -o pipefail
 cd "$(dirname "$0")/.."
 if ! command -v rt > /dev/null; then
@@ -11,7 +12,7 @@ log=target/prove.log
 mkdir -p target/staticlib
 echo 'Proving the library (some minutes the first time):'
 # a crate's verdict comes after the line that names it
-if ! (cd crates/zaqfinell_c && rt lib 2>&1) | tee "$log" | sed -un -E \
+if ! (cd crates/zaqfinell_c && rt lib --cpu x86-64 2>&1) | tee "$log" | sed -un -E \
     -e '/^crate [a-z0-9_]+:/{ s/^crate ([a-z0-9_]+):.*/\1/; h; }' -e '/^logic=proved /{ g; s/^/  /; s/$/ proved/p; }'; then
     cat "$log" >&2
     echo "$0: the library is not proved" >&2

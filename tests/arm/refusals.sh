@@ -1,6 +1,6 @@
 #!/usr/bin/env bash
 # A toolchain that hands its module over in another way, or another module, gives a clear message and no library. In a copy of the tree the
-# kit's prover is replaced by a script that hands a module to clang as each case says; lib_for.sh does the rest as ever. The first case is
+# kit's rt is replaced by a script that hands a module to clang as each case says; lib_for.sh does the rest as ever. The first case is
 # the toolchain as it is, and gives the library.
 . "$(dirname "$0")/../verdict.sh"
 . tools/lib_for/module.sh
@@ -13,39 +13,38 @@ if [ ! -f "$original/libzaqfinell.a" ]; then
     exit 1
 fi
 tree=$PWD/target/refusals
-on=on/$(uname -m)
 own_clang=$(kit_bin)/clang
 
-# ---- the copy of the tree, and in it a kit whose prover is ours
+# ---- the copy of the tree, and in it a kit whose rt is ours
 
 rm -rf "$tree"
-mkdir -p "$tree/target" "$tree/case"
-cp -r crates crates.txt include tools "$tree"
-cp -r target/stamp "$tree/target"
-ln -s "$PWD/target/rlib" "$tree/target"
-link_all_but on "$(kit)" "$tree/kit"
-link_all_but bin "$(kit)/$on" "$tree/kit/$on"
-link_all_but rattle "$(kit)/$on/bin" "$tree/kit/$on/bin"
-cat > "$tree/kit/$on/bin/rattle" << 'PROVER'
+mkdir -p "$tree/target" "$tree/case" "$tree/crates/zaqfinell_c"
+cp -r crates.txt include tools "$tree"
+link_all_but bin "$(kit)" "$tree/kit"
+link_all_but rt "$(kit)/bin" "$tree/kit/bin"
+cat > "$tree/kit/bin/rt" << 'RT'
 #!/usr/bin/env bash
-# builds the library as the file `how` beside the module says, and proves nothing: a crate that is not proved yet is none of its work
+# builds the library as the file `how` beside the module says, and proves nothing
 set -eu
-kind=''
-while [ $# -gt 0 ]; do
-    case $1 in --toolchain) toolchain=$2 ;; -o) archive=$2 ;; --crate-type) kind=$2 ;; esac
-    shift
-done
-[ "$kind" = staticlib ]
-cd "$(dirname "$0")/../../../../case"
+kit=$(cd "$(dirname "$0")/.." && pwd)
+case ${1:-} in
+doc) echo "$kit/START-HERE.md" && exit ;;
+lib) ;;
+*) exit 2 ;;
+esac
+archive=$PWD/out/libzaqfinell_c.a
+toolchain=$kit/toolchain
+cd ../../case
 clang=$toolchain/bin/clang
 usual=(-ffunction-sections -mllvm -trap-unreachable -Werror -fPIC -O3 --sysroot="$toolchain")
 x86=(--target=x86_64-unknown-linux-gnu -march=x86-64)
 hand_over() { "$clang" "${x86[@]}" "${usual[@]}" "$@" -c -x ir module.bc -o module.o; }
 . ./how
+mkdir -p "${archive%/*}"
 rm -f "$archive"
 "$toolchain/bin/llvm-ar" rcsD --format=gnu "$archive" module.o
-PROVER
-chmod +x "$tree/kit/$on/bin/rattle"
+RT
+chmod +x "$tree/kit/bin/rt"
 
 # ---- the cases
 
@@ -54,7 +53,7 @@ chmod +x "$tree/kit/$on/bin/rattle"
 made() { # made HOW: lib_for.sh with a toolchain that hands the module of the case over in this way
     echo "$1" > "$tree/case/how"
     echo 'left of an earlier run' > "$tree/target/$target/libzaqfinell.a"
-    RATTLE_HOME=$tree/kit bash "$tree/tools/lib_for.sh" "$target" > "$tree/said" 2> "$tree/complaint"
+    PATH=$tree/kit/bin:$PATH bash "$tree/tools/lib_for.sh" "$target" > "$tree/said" 2> "$tree/complaint"
 }
 
 refused() { # refused WHAT WORDS HOW: status 1, these words, and nothing that could be taken for a library

@@ -30,7 +30,7 @@ BEGIN {
     know("zeroext")
 }
 
-/^attributes / { gsub(/"probe-stack"="inline-asm"|"stack-probe-size"="3072"|"target-cpu"="x86-64-v2"/, "") }
+/^attributes / { gsub(/"probe-stack"="inline-asm"|"stack-probe-size"="3072"|"target-cpu"="x86-64"/, "") }
 /^attributes .*"/ { print "line " NR ": the attribute " substr($0, index($0, "\"")) }
 /^declare / && !/@llvm\./ { print "line " NR ": a function that the library does not have: " $0 }
 {

@@ -40,7 +40,7 @@ take_module() {
     stand_in_kit "$work"
     # the first run takes some minutes: a line is shown for each crate
     rm -f crates/zaqfinell_c/out/libzaqfinell_c.a
-    (cd crates/zaqfinell_c && "$work/kit/bin/rt" lib 2>&1) | tee "$work/log" | sed -un '/^crate /p' || status=$?
+    (cd crates/zaqfinell_c && "$work/kit/bin/rt" lib --cpu x86-64 2>&1) | tee "$work/log" | sed -un '/^crate /p' || status=$?
     if [ "$status" -ne 0 ]; then
         tail -n 5 "$work/log" >&2
         no_library "the toolchain did not prove and build the library for x86-64 (exit status $status)"
@@ -49,6 +49,8 @@ take_module() {
     if [ ${#calls[@]} -ne 1 ] || [ ! -f "${calls[0]}/words" ]; then
         no_library "the toolchain called its clang $(find "$work/calls/" -name words | wc -l) times, not once"
     fi
+    mkdir -p target/staticlib
+    cp crates/zaqfinell_c/out/libzaqfinell_c.a target/staticlib/libzaqfinell.a
     mapfile -d '' -t words < "${calls[0]}/words"
     read_words "${words[@]}"
     cp "${calls[0]}/module.bc" "$work/module.bc"
