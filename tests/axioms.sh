@@ -2,7 +2,7 @@
 # Nothing is assumed: reads what `rt ci` printed and holds each crate's verdict to it. Every crate of crates.txt is proved from nothing, in
 # that run or, where the toolchain says that it is kept, in an earlier one on this machine over the same files, and no verdict names an
 # axiom. What is linked is asked once more, since only there the toolchain tells what the linked code reaches: the library nothing, and the
-# program house_table what the kit says of C's read and write, and of a program's arguments.
+# program house_table what the kit says of C's read and write, and of a program's arguments. So is walk, which is linked with neither.
 # usage: axioms.sh LOG    LOG is what `rt ci` printed
 log=${1:-}
 [ -f "$log" ] && log=$(cd "$(dirname "$log")" && pwd)/$(basename "$log")
@@ -44,7 +44,7 @@ for crate in $crates; do
     fi
 done
 
-for crate in zaqfinell_c house_table; do
+for crate in zaqfinell_c house_table walk; do
     said=$(cd "crates/$crate" && rt check 2>&1)
     reached=$(grep '^axioms ' <<< "$said" | grep -v ': none reached ' | paste -sd '|' | sed 's/|/; /g')
     verdict "$crate: $(tail -n 1 <<< "$said") $reached" held "$(grep '^logic=' <<< "$said" | tail -n 1)" "$reached" "$(allowed_to "$crate")"
