@@ -23,7 +23,7 @@ mkdir -p "$work"
 # the function, the constant in it that is altered, and what the library then does
 case $target in
 aarch64-*) inside=network_list::before_arcs old='icmp ult i64 240,' new='icmp ult i64 241,' does='takes a list of 241 arcs' ;;
-armv7-*) inside=table_records::next old='\(add nuw i64 %r[0-9]*\), 13$' new='\1, 12' does='reads 12 bits for a record' ;;
+armv7-*) inside=table_records::next old='\(add i64 %r[0-9]*\), 13$' new='\1, 12' does='reads 12 bits for a record' ;;
 thumbv7em-*) inside=call_ask::route old='store i32 13,' new='store i32 12,' does='refuses a room too short for a route with 12' ;;
 esac
 sed "/^define .*@\"$inside\"/,/^}/s/$old/$new/" "$text" > "$work/module.ll"
