@@ -4,14 +4,7 @@
 # axiom. What is linked is asked once more, since only there the toolchain tells what the linked code reaches: the library nothing, and the
 # program house_table what the kit says of C's read and write, and of a program's arguments. So is walk, which is linked with neither.
 # usage: axioms.sh LOG    LOG is what `rt ci` printed
-log=${1:-}
-[ -f "$log" ] && log=$(cd "$(dirname "$log")" && pwd)/$(basename "$log")
-. "$(dirname "$0")/verdict.sh"
-if [ ! -f "$log" ]; then
-    echo "usage: $0 LOG    LOG is what rt ci printed; there is no file '$log'" >&2
-    echo '0 passed, 1 failed'
-    exit 2
-fi
+. "$(dirname "$0")/log.sh"
 
 # one line for each crate that is proved: its name, its verdict (`kept` where it was not checked anew), and the axioms it names
 verdicts=$(awk '

@@ -2,14 +2,7 @@
 # Every must-fail edit is refused at a fact that no longer holds: reads what `rt ci` printed. An edit that cannot be applied or read fails
 # nothing there, and neither does one that is refused only because a proof names what the edit took away; here both fail.
 # usage: edits.sh LOG    LOG is what `rt ci` printed
-log=${1:-}
-[ -f "$log" ] && log=$(cd "$(dirname "$log")" && pwd)/$(basename "$log")
-. "$(dirname "$0")/verdict.sh"
-if [ ! -f "$log" ]; then
-    echo "usage: $0 LOG    LOG is what rt ci printed; there is no file '$log'" >&2
-    echo '0 passed, 1 failed'
-    exit 2
-fi
+. "$(dirname "$0")/log.sh"
 
 verdict "the log has $(grep -c '^rt: ok; ' "$log") lines 'rt: ok', not one" test "$(grep -c '^rt: ok; ' "$log")" = 1
 verdict "$(grep '^rt: ok; ' "$log")" test -z "$(grep -E '^rt: ok; .*, [0-9]+ bad' "$log")"

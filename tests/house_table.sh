@@ -4,7 +4,7 @@
 # standard error of a refusal, a failed read, a failed write and arguments, with the exit status that tools/house_table.sh gives.
 . "$(dirname "$0")/verdict.sh"
 
-verdict "it is proved and built" bash tools/program.sh > /dev/null
+verdict "it is proved and built" bash tools/build_house_table.sh > /dev/null
 program=$(program house_table)
 independent=target/outside/outside
 work=target/house_table

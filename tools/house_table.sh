@@ -5,7 +5,7 @@
 set -u
 . "$(dirname "$0")/host.sh"
 if [ ! -x "$repository/target/bin/house_table" ]; then
-    echo "$0: target/bin/house_table is missing: bash tools/program.sh builds it" >&2
+    echo "$0: target/bin/house_table is missing: bash tools/build_house_table.sh builds it" >&2
     exit 2
 fi
 said=$(mktemp) || exit 2

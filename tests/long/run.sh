@@ -77,7 +77,7 @@ python=$(python_with_networkx)
 if [ -z "$python" ]; then
     missing networkx networkx 'apt-get install python3-networkx'
 elif [ ! -x target/bin/house_table ]; then
-    missing networkx target/bin/house_table 'bash tools/program.sh builds it'
+    missing networkx target/bin/house_table 'bash tools/build_house_table.sh builds it'
 else
     versions+=("$("$python" --version), networkx $("$python" -c 'import networkx; print(networkx.__version__)')")
     part networkx "$python" tests/long/networkx_check.py "$house_table" "$work/networkx" "$@"

@@ -8,7 +8,8 @@ use lib.ListN.{length, get_or, take, drop, length-drop}
 use lib.Seq.{get_or-take, get_or-drop, length-take-le}
 use Rattle.method.specs.Rules.{Filled}
 use Rattle.network.specs.Layout.{net_of}
-use Rattle.run_cells.specs.Part.{table_size, entry_count, targets_at, distances_at, hops_at, part_size, state_size, cells, entry_at, site_of}
+use Rattle.run_cells.specs.Part.{table_size, entry_count, targets_at, distances_at, hops_at, part_size, state_size, cells, entry_at}
+use Rattle.run_cells.specs.Part.{site_of}
 use Rattle.run_cells.proofs.Stored.{cell_is}
 use Rattle.method.specs.Entries.{is_stopped}
 use Rattle.table.specs.File.{one, file_of, header_for}
@@ -28,11 +29,13 @@ module _ (s : List ℕ) (i : ℕ) (pos : 1 ≤ i) (lt : i < table_size) (size : 
   part_at : (o k : ℕ) → k < 15 → o + 16 ≤ part_size → get_or (part s i o) k 0 ≡ cells s i (o + suc k)
   part_at o k h g =
       let e : (i - 1) * part_size + 1 + o + k ≡ (i - 1) * part_size + (o + suc k) = omega arith in
-      get_or-take 15 (drop ((i - 1) * part_size + 1 + o) s) k 0 h ∙ get_or-drop ((i - 1) * part_size + 1 + o) s k 0 ∙ ap (λ (q : ℕ). get_or s q 0) e
+      get_or-take 15 (drop ((i - 1) * part_size + 1 + o) s) k 0 h ∙ get_or-drop ((i - 1) * part_size + 1 + o) s k 0
+      ∙ ap (λ (q : ℕ). get_or s q 0) e
       ∙ cell_is s i (o + suc k) pos (omega arith)
 
   part_size_lem : (o : ℕ) → o + 16 ≤ part_size → length (part s i o) ≡ 15
-  part_size_lem o g = length-take-le 15 (drop ((i - 1) * part_size + 1 + o) s) (rw (length-drop ((i - 1) * part_size + 1 + o) s) (omega arith))
+  part_size_lem o g = length-take-le 15 (drop ((i - 1) * part_size + 1 + o) s)
+      (rw (length-drop ((i - 1) * part_size + 1 + o) s) (omega arith))
 
   rows_after : (k : ℕ) → k ≤ 15 → listed (part s i targets_at) (part s i distances_at) (part s i hops_at) k ≡ after_first (cells s i) k
   unfolding listed

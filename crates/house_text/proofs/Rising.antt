@@ -32,7 +32,8 @@ module _ (text : ℕ → List ℕ) where
         let same = length-sets room at (rising text k) in
         rw (add-one k) (record { fits = omega (arith, grows k n h, length_more k) })
 
-    pub one_more_lem : {last : List ℕ} {end : ℕ} → Written after next (text (k + 1)) last end → Written room at (rising text (k + 1)) last end
+    pub one_more_lem : {last : List ℕ} {end : ℕ} → Written after next (text (k + 1)) last end
+        → Written room at (rising text (k + 1)) last end
     one_more_lem v = rw (add-one k) (both w (rw (add-one k) at v))
 
   -- each at most b long

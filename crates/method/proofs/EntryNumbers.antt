@@ -87,4 +87,5 @@ rows_stand g n (suc k) i y at to = go (last_or_before k i at) (λ there. rows_st
         (omega (arith, row_place n k y, length_rows g n k))
         (numbers_stand (g (suc k)) n y to))
     go (inr there) rec =
-        stands_on (row_numbers g n k) row (place n i y) (g i y) (omega (arith, place_within n k i y there to, length_rows g n k)) (rec there)
+        stands_on (row_numbers g n k) row (place n i y) (g i y) (omega (arith, place_within n k i y there to, length_rows g n k))
+        (rec there)

@@ -216,7 +216,8 @@ pub some_step : (net : Net) → Sizes net → Valid net → Loopless net → (bs
     → (b : ℕ) × (b ≤ 255) × ((step net (run net bs) (byte_step b)).kind ≡ taken)
 some_step net small va loopless bs i at ne = go (on net va loopless bs i at ne)
   where
-    moves : (b : ℕ) (s : Step) → byte_step b ≡ s → (step net (run net bs) s).kind ≡ taken → (step net (run net bs) (byte_step b)).kind ≡ taken
+    moves : (b : ℕ) (s : Step) → byte_step b ≡ s → (step net (run net bs) s).kind ≡ taken
+        → (step net (run net bs) (byte_step b)).kind ≡ taken
     moves b s e q = ap (λ (t : Step). (step net (run net bs) t).kind) e ∙ q
 
     go : Sleeper (nodes net bs) net.n ⊎ Ready (undelivered net (run net bs)) net.arcs

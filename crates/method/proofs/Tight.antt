@@ -90,7 +90,8 @@ module _ (net : Net) (va : Valid net) where
     lengths_tight : (o : Option Choice) → Chosen net.rank (λ h. finite 0) (λ j l. IsArc net.arcs i j l) o
         → length nd.table ≤ net.n → lengths nd.sent ≤ (net.n - 1) * net.lmax + 1
     lengths_tight none ch few =
-        let no_arc_lem : AtLeast net i (suc (last_len nd.sent)) = λ j l a. let z : ◌≡◌ {A = ℕ} 0 1 = cc (ch j l a) in absurd (omega arith) in
+        let no_arc_lem : AtLeast net i (suc (last_len nd.sent)) = λ j l a. let z : ◌≡◌ {A = ℕ} 0 1 = cc (ch j l a) in
+        absurd (omega arith) in
         omega (arith, holds.many (suc (last_len nd.sent)) no_arc_lem)
     lengths_tight (some p) ch few =
         let f = ch.0 in

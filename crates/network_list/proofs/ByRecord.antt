@@ -107,7 +107,11 @@ module _ (n lmax : ℕ) (ys : List Arc) where
   -- a refusal stays
   pub after_refusal : (i f : ℕ) (g : List ℕ) → After i f g → (f ≡ 0 → ⊥) → After (length ys) f g
   after_refusal i zero g b ne = absurd (ne refl)
-  after_refusal i (suc f) g b ne = record { refused = b.refused; laid_out_lem = λ e. absurd (omega arith); within = λ e. absurd (omega arith) }
+  after_refusal i (suc f) g b ne = record {
+    refused = b.refused;
+    laid_out_lem = λ e. absurd (omega arith);
+    within = λ e. absurd (omega arith);
+  }
 
   -- after the last record
   module _ (f : ℕ) (g : List ℕ) (b : After (length ys) f g) where

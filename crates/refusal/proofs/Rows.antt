@@ -114,7 +114,8 @@ exactly rows = record { told = told rows; only = only }
     told (row ∷ rows) = go row.holds refl (told rows)
       where
         go : (t : Bool) → row.holds ≡ t → Given rows (first rows) ⊎ (Clear rows × (first rows ≡ none))
-            → Given (row ∷ rows) (cond t (refused_by row) (first rows)) ⊎ (Clear (row ∷ rows) × (cond t (refused_by row) (first rows) ≡ none))
+            → Given (row ∷ rows) (cond t (refused_by row) (first rows))
+            ⊎ (Clear (row ∷ rows) × (cond t (refused_by row) (first rows) ≡ none))
         go true h d = inl (record { before = []; row = row; after = rows; stands = refl; clear = tt; holds = h; says = refl })
         go false h (inl g) =
             inl (record {

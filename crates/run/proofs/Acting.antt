@@ -18,7 +18,8 @@ use Rattle.method.proofs.Working.{work_ok}
 use Rattle.method.proofs.Runs.{begun_site, handed_site}
 use Rattle.method.proofs.Tight.{spread}
 use Rattle.network.specs.Layout.{nodes_at, net_of, Laid}
-use Rattle.run_cells.specs.Part.{Part, table_size, phase_at, sent_count, entry_count, waits_at, delivered_at, sums_at, phase_named, site_of, state_of}
+use Rattle.run_cells.specs.Part.{Part, table_size, phase_at, sent_count, entry_count, waits_at, delivered_at, sums_at, phase_named}
+use Rattle.run_cells.specs.Part.{site_of, state_of}
 use Rattle.run_cells.specs.Stores.{Stored, raised, begun_part}
 use Rattle.run_cells.specs.Caches.{Caches}
 use Rattle.run_cells.proofs.Lists.{sent_length, table_length, row_at}
@@ -106,7 +107,8 @@ module _ (g : List ℕ) (la : Laid g) (m : ℕ → Part) (re : Resting g m) (i :
           working m₁ (begun_part (m i) i) st (became (site_of (m i)) (begun i)) begun_is
           (begun_site (net_of g) (state_of m) re.inv i asleep) refl ((spread (net_of g) la.accepted.valid).at_start i) begun_caches
 
-      pub started_now : (n : ℕ → Part) → Worked g m₁ i n → Acted g m i n taken (starting (phase_named (m i phase_at)) (net_of g) (state_of m) i)
+      pub started_now : (n : ℕ → Part) → Worked g m₁ i n
+          → Acted g m i n taken (starting (phase_named (m i phase_at)) (net_of g) (state_of m) i)
       started_now n w =
           subst (λ (ph : Phase). Acted g m i n taken (starting ph (net_of g) (state_of m) i)) (sym asleep)
           (worked m₁ (begun_part (m i) i) st (became (site_of (m i)) (begun i)) begun_is
@@ -173,13 +175,15 @@ module _ (g : List ℕ) (la : Laid g) (m : ℕ → Part) (re : Resting g m) (i :
           (λ k l. at st (sums_at + k) ∙ counted_else (m i) (delivered_at + h) (sums_at + k) (omega (arith, h_low)))))
 
       -- the message is kept, and nothing else happens
-      kept_there : works_on (phase_named (m i phase_at)) (net_of g) i ss (handed (site_of (m i)) h) ≡ handed (site_of (m i)) h → Delivers m₁ taken
+      kept_there : works_on (phase_named (m i phase_at)) (net_of g) i ss (handed (site_of (m i)) h) ≡ handed (site_of (m i)) h
+          → Delivers m₁ taken
       kept_there e =
           let is : site_of (m₁ i) ≡ handed (site_of (m i)) h = ap site_of st.here ∙ handed_is in
           delivers m₁
           (record {
             kind = refl;
-            state = put_state m m₁ i st.there (works_on (phase_named (m i phase_at)) (net_of g) i ss (handed (site_of (m i)) h)) (is ∙ sym e);
+            state = put_state m m₁ i st.there (works_on (phase_named (m i phase_at)) (net_of g) i ss (handed (site_of (m i)) h))
+                (is ∙ sym e);
             there = st.there;
             taken_le = λ k. omega (arith, ap (λ (x : Site). x.taken k) is, (re.inv i).site.taken_le k, (re.inv i).site.delivered_le k);
             caches = subst (λ (p : Part). Caches g i ss p) (sym st.here) handed_caches;

@@ -15,7 +15,8 @@ use Rattle.method.specs.Invariant.{Inv, Spread}
 use Rattle.method.proofs.Runs.{fresh_ok}
 use Rattle.method.proofs.Tight.{spread}
 use Rattle.network.specs.Layout.{len_at, net_of, Laid}
-use Rattle.run_cells.specs.Part.{Part, table_size, nodes_most, phase_at, sent_count, entry_count, lp_at, last_at, delivered_at, taken_at, sums_at}
+use Rattle.run_cells.specs.Part.{Part, table_size, nodes_most, phase_at, sent_count, entry_count, lp_at, last_at, delivered_at, taken_at}
+use Rattle.run_cells.specs.Part.{sums_at}
 use Rattle.run_cells.specs.Part.{marks_at, targets_at, part_size, state_size, cells, row, sum_of, site_of, state_of, entry_marked}
 use Rattle.run_cells.specs.Stores.{zeroed, with_sums, cleared}
 use Rattle.run_cells.specs.Caches.{Caches}

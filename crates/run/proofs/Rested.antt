@@ -35,7 +35,8 @@ use Rattle.run_node.proofs.Choice.{on_arc}
 use Rattle.run.specs.Resting.{Resting}
 
 -- one part has changed
-pub put_state : (m n : ℕ → Part) (i : ℕ) → ((j : ℕ) → j ≢ i → n j ≡ m j) → (s : Site) → site_of (n i) ≡ s → state_of n ≡ put (state_of m) i s
+pub put_state : (m n : ℕ → Part) (i : ℕ) → ((j : ℕ) → j ≢ i → n j ≡ m j) → (s : Site) → site_of (n i) ≡ s
+    → state_of n ≡ put (state_of m) i s
 put_state m n i there s e = fun_ext (λ j. go j (eqb j i) refl)
   where
     go : (j : ℕ) (b : Bool) → eqb j i ≡ b → site_of (n j) ≡ cond b s (site_of (m j))

@@ -82,7 +82,8 @@ one_done g bs k m n c d r lt so did ed =
           ap (λ (x : Counts). plus x (counts_from (net_of g) (state_of n) (steps (drop (k + 1) bs)))) ed
           ∙ plus_counted r c (counts_from (net_of g) (state_of n) (steps (drop (k + 1) bs)))
           ∙ ap (λ (x : Kind). plus c (counted x (counts_from (net_of g) (state_of n) (steps (drop (k + 1) bs))))) did.kind
-          ∙ ap (λ (st : State). plus c (counted (step (net_of g) (state_of m) b).kind (counts_from (net_of g) st (steps (drop (k + 1) bs)))))
+          ∙ ap (λ (st : State). plus c (counted (step (net_of g) (state_of m) b).kind
+          (counts_from (net_of g) st (steps (drop (k + 1) bs)))))
           did.state
           ∙ ap (λ (l : List Step). plus c (counts_from (net_of g) (state_of m) l)) (sym cut)
           ∙ so.counted;

@@ -12,7 +12,8 @@ use lib.ListN.{length, get_or, get_elem?}
 use borrow.Author.Tests.{lt-ltb, le-ltb, le-leb, lt-leb, eqb-true, eqb-false}
 use Rattle.method.specs.Network.{IsNode, IsArc}
 use Rattle.method.specs.Message.{Msg, item, oldest}
-use Rattle.method.specs.Steps.{State, sents, Step, deliver, byte_step, Named, node, arc, nothing, names, Kind, unknown, Stepped, carried_out}
+use Rattle.method.specs.Steps.{State, sents, Step, deliver, byte_step, Named, node, arc, nothing, names, Kind, unknown, Stepped}
+use Rattle.method.specs.Steps.{carried_out}
 use Rattle.method.specs.Steps.{step}
 use Rattle.method.specs.Invariant.{Inv, Spread}
 use Rattle.method.proofs.Oldest.{oldest_grow}
@@ -81,7 +82,8 @@ module _ (g : List ℕ) (b : ℕ) where
   delivery : 16 ≤ b → byte_step b ≡ deliver (suc (b - 16))
   delivery l = let e : b - 15 ≡ suc (b - 16) = omega arith in rw (lt-leb b 15 (omega arith), e)
 
-  pub names_arc : 16 ≤ b → b - 16 < get_or g count_at 0 → names (net_of g) (byte_step b) ≡ arc (arc_at g (b - 16)).tail (arc_at g (b - 16)).head
+  pub names_arc : 16 ≤ b → b - 16 < get_or g count_at 0
+      → names (net_of g) (byte_step b) ≡ arc (arc_at g (b - 16)).tail (arc_at g (b - 16)).head
   names_arc l n =
       let e : 0 + (b - 16) ≡ b - 16 = omega arith in
       rw (delivery l, arc_some g 0 (get_or g count_at 0) (b - 16) n) (ap (λ (x : ℕ). arc (arc_at g x).tail (arc_at g x).head) e)
@@ -139,4 +141,5 @@ module _ (g : List ℕ) (la : Laid g) (m : ℕ → Part) (re : Resting g m) (b :
   pub nothing_did : names (net_of g) b ≡ nothing → Done g m unknown (step (net_of g) (state_of m) b)
   unfolding step
   nothing_did e =
-      subst (λ (o : Named). Done g m unknown (carried_out (net_of g) (state_of m) o)) (sym e) (record { kind = refl; state = refl; rest = re })
+      subst (λ (o : Named). Done g m unknown (carried_out (net_of g) (state_of m) o)) (sym e)
+      (record { kind = refl; state = refl; rest = re })

@@ -19,7 +19,8 @@ use Rattle.method.proofs.View.{with}
 use Rattle.method.proofs.Oldest.{heard_took}
 use Rattle.network.specs.Layout.{len_at}
 use Rattle.run_cells.specs.Part.{Part, entry_most, table_size, label_most, phase_at, sent_count, entry_count, lp_at, last_at, waits_at}
-use Rattle.run_cells.specs.Part.{delivered_at, taken_at, sums_at, marks_at, targets_at, distances_at, hops_at, messages_at, msg_of, entry_at}
+use Rattle.run_cells.specs.Part.{delivered_at, taken_at, sums_at, marks_at, targets_at, distances_at, hops_at, messages_at, msg_of}
+use Rattle.run_cells.specs.Part.{entry_at}
 use Rattle.run_cells.specs.Part.{row}
 use Rattle.run_cells.specs.Part.{node_of, site_of, entry_marked, sum_of}
 use Rattle.run_cells.specs.Stores.{upd, raised, pushed, length_sent, waited, noted, filled, stopped_part, begun_part}
@@ -125,7 +126,8 @@ module _ (g : List ℕ) (i : ℕ) (ss : ℕ → List Msg) where
       new = record { target = y; distance = x; hop = h }
 
       marks : (z : ℕ) → z < table_size → (b : Bool) → eqb z y ≡ b
-          → (noted f y x h (marks_at + z) ≤ noted f y x h entry_count) × (find z (node_of (noted f y x h)).table ≡ entry_marked (noted f y x h)
+          → (noted f y x h (marks_at + z) ≤ noted f y x h entry_count)
+          × (find z (node_of (noted f y x h)).table ≡ entry_marked (noted f y x h)
           (noted f y x h (marks_at + z)))
       marks z lt true e =
           let q : z ≡ y = eqb-true z y e in
@@ -205,7 +207,8 @@ module _ (g : List ℕ) (i : ℕ) (ss : ℕ → List Msg) where
         taken : heard ss (site_of f') ≡ with (heard ss (site_of f)) h (sent_after (row f taken_at h) (ss h))
         taken = ap (heard ss) site ∙ heard_took (site_of f) h (node_of f) ss lt
 
-        sums : (k : ℕ) → k < table_size → (b : Bool) → eqb k h ≡ b → f' (sums_at + k) ≡ sum_of (len_at g i k) (item (heard ss (site_of f') k))
+        sums : (k : ℕ) → k < table_size → (b : Bool) → eqb k h ≡ b
+            → f' (sums_at + k) ≡ sum_of (len_at g i k) (item (heard ss (site_of f') k))
         sums k l true e =
             let q : h ≡ k = sym (eqb-true k h e) in
             subst (λ (n : ℕ). f' (sums_at + n) ≡ sum_of (len_at g i n) (item (heard ss (site_of f') n))) q

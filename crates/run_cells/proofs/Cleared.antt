@@ -35,7 +35,8 @@ zero_next {m} {n} {r} {i} k e d = named (zeroed_next (m i) k) (then (λ g. upd g
 
 -- one sum more
 module _ (g : List ℕ) (i : ℕ) where
-  laid_next : (f : Part) (k v : ℕ) → v ≡ sum_of (len_at g i k) (finite 0) → upd (with_sums g i f k) (sums_at + k) v ≡ with_sums g i f (k + 1)
+  laid_next : (f : Part) (k v : ℕ) → v ≡ sum_of (len_at g i k) (finite 0)
+      → upd (with_sums g i f k) (sums_at + k) v ≡ with_sums g i f (k + 1)
   laid_next f k v e = fun_ext (λ q. go q (eqb q (sums_at + k)) refl (ltb q sums_at) refl (ltb q (sums_at + k)) refl)
     where
       go : (q : ℕ) (a : Bool) → eqb q (sums_at + k) ≡ a → (b : Bool) → ltb q sums_at ≡ b → (c : Bool) → ltb q (sums_at + k) ≡ c

@@ -12,7 +12,8 @@ use Rattle.method.specs.Message.{Msg, label, len, last_len}
 use Rattle.method.specs.Rules.{stopped, Node, stop, wait}
 use Rattle.method.specs.Work.{Site, became}
 use Rattle.run_cells.specs.Part.{Part, entry_most, label_most, phase_at, sent_count, entry_count, lp_at, last_at, waits_at}
-use Rattle.run_cells.specs.Part.{delivered_at, taken_at, targets_at, distances_at, hops_at, messages_at, msg_of, phase_named, node_of, site_of}
+use Rattle.run_cells.specs.Part.{delivered_at, taken_at, targets_at, distances_at, hops_at, messages_at, msg_of, phase_named, node_of}
+use Rattle.run_cells.specs.Part.{site_of}
 use Rattle.run_cells.specs.Stores.{upd, pushed, length_sent, waited, stopped_part}
 use Rattle.run_cells.specs.Caches.{Last}
 use Rattle.run_cells.proofs.Stored.{pushed_else}

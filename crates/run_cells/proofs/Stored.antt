@@ -20,7 +20,8 @@ pub cell_is : (l : List ℕ) (i o : ℕ) → 1 ≤ i → o < part_size → get_o
 cell_is l zero o pos lt = absurd (omega arith)
 cell_is l (suc i) o pos lt =
     let e : suc i - 1 ≡ i = omega arith in
-    ap (λ (k : ℕ). get_or l (k * part_size + o) 0) e ∙ sym (ap (λ (b : Bool). cond b (get_or l (i * part_size + o) 0) 0) (lt-ltb o part_size lt))
+    ap (λ (k : ℕ). get_or l (k * part_size + o) 0) e
+    ∙ sym (ap (λ (b : Bool). cond b (get_or l (i * part_size + o) 0) 0) (lt-ltb o part_size lt))
 
 -- of the node after i
 pub next_cell : (l : List ℕ) (i o : ℕ) → o < part_size → get_or l (i * part_size + o) 0 ≡ cells l (i + 1) o

@@ -2,7 +2,8 @@
 use Rattle.std.specs.Prelude.{◌≡◌, ◌≢◌, List, ℕ, zero, suc, ◌+◌, ◌-◌, ◌≤◌, ltb, eqb, if◌then◌else◌}
 use Rattle.method.specs.Message.{finite}
 use Rattle.network.specs.Layout.{len_at}
-use Rattle.run_cells.specs.Part.{Part, phase_at, sent_count, entry_count, lp_at, last_at, waits_at, sums_at, marks_at, targets_at, distances_at}
+use Rattle.run_cells.specs.Part.{Part, phase_at, sent_count, entry_count, lp_at, last_at, waits_at, sums_at, marks_at, targets_at}
+use Rattle.run_cells.specs.Part.{distances_at}
 use Rattle.run_cells.specs.Part.{hops_at, messages_at, table_size, label_most, rise_most, no_sum, sum_of}
 
 -- a number stored in a part

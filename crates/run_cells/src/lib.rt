@@ -3,7 +3,8 @@
 
 ghost use Rattle.std.specs.Prelude.{◌≡◌, ◌+◌, ◌/◌, ◌%◌, ◌≤◌, ◌<◌, ltb, eqb, length};
 ghost use Rattle.network.specs.Layout.{layout_size, len_at};
-ghost use Rattle.run_cells.specs.Part.{sent_most, part_size, state_size, waits_at, delivered_at, sent_count, entry_count, targets_at, cells};
+ghost use Rattle.run_cells.specs.Part.{sent_most, part_size, state_size, waits_at, delivered_at, sent_count, entry_count, targets_at};
+ghost use Rattle.run_cells.specs.Part.{cells};
 ghost use Rattle.run_cells.specs.Stores.{upd, Rises, Stored, raised, pushed, length_sent, waited, noted, filled, stopped_part};
 ghost use Rattle.run_cells.specs.Stores.{begun_part, zeroed};
 ghost use Rattle.run_cells.specs.Stores.{with_sums, cleared};

@@ -16,7 +16,8 @@ use Rattle.method.specs.Steps.{State, steps, Counts}
 use Rattle.method.specs.Entries.{known, find, said, has_stopped, others, entry, records}
 use Rattle.method.proofs.Bounded.{never_a_mark}
 use Rattle.network.specs.Layout.{net_of}
-use Rattle.run_cells.specs.Part.{Part, table_size, marks_at, distances_at, hops_at, entry_at, phase_named, node_of, site_of, state_of, entry_marked}
+use Rattle.run_cells.specs.Part.{Part, table_size, marks_at, distances_at, hops_at, entry_at, phase_named, node_of, site_of, state_of}
+use Rattle.run_cells.specs.Part.{entry_marked}
 use Rattle.run_cells.specs.Caches.{Marks}
 use Rattle.run.specs.Ran.{Ran}
 use Rattle.method.specs.Entries.{is_stopped, stopped_to, entry_of}
@@ -85,7 +86,8 @@ module _ (g bs : List ℕ) (m : ℕ → Part) (c : Counts) (ran : Ran g bs m c) 
   ran_entry y = ap (λ (st : State). entry_of (st i).node y) ran.state
 
   -- a distance is no mark
-  pub no_mark : Accepted (net_of g) → IsNode (net_of g).n i → (y d h : ℕ) → entry_of (state_of m i).node y ≡ known d h → d < unreachable_mark
+  pub no_mark : Accepted (net_of g) → IsNode (net_of g).n i → (y d h : ℕ) → entry_of (state_of m i).node y ≡ known d h
+      → d < unreachable_mark
   no_mark acc at y d h e = never_a_mark (net_of g) acc.valid (steps bs) acc.sizes i y d h at (sym (ran_entry y) ∙ e)
 
   pub ran_records : others i (state_of m i).node.table ≡ records (net_of g) (steps bs) i

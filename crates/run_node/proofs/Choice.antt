@@ -134,7 +134,8 @@ module _ (g : List ℕ) (la : Laid g) (ss : ℕ → List Msg) (m : ℕ → Part)
   agreed = agrees choice (rule₁_ok (net_of g).rank items i (net_of g).arcs)
 
   -- Rule 2: it stops
-  pub stops : m i lp_at + (net_of g).lmax < (least (m i) 16).sum → turn_at (net_of g) i ss to₁ (site_of (m i)) ≡ rests (stop (node_of (m i)))
+  pub stops : m i lp_at + (net_of g).lmax < (least (m i) 16).sum
+      → turn_at (net_of g) i ss to₁ (site_of (m i)) ≡ rests (stop (node_of (m i)))
   unfolding turn_at
   stops lt = go choice agreed
     where

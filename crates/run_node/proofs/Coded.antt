@@ -4,7 +4,8 @@ use mathlib.Core.Logic.{◌≢◌}
 use Prim.Native.Nat.{ℕ, ◌+◌, ◌-◌, ◌≤◌, ◌<◌}
 use native.Mathlib.Omega.{arith}
 use borrow.Author.Tests.{le-leb, lt-leb, eq-eqb, ne_eqb}
-use Rattle.run_cells.specs.Part.{Part, label_most, sent_count, entry_count, last_at, delivered_at, taken_at, sums_at, marks_at, messages_at, no_sum}
+use Rattle.run_cells.specs.Part.{Part, label_most, sent_count, entry_count, last_at, delivered_at, taken_at, sums_at, marks_at}
+use Rattle.run_cells.specs.Part.{messages_at, no_sum}
 use Rattle.run_cells.specs.Stores.{upd, Rises, Stored, raised, waited, filled}
 use Rattle.run_cells.proofs.Stored.{named, then}
 use Rattle.run_cells.proofs.Meaning.{skip}
@@ -23,7 +24,10 @@ module _ (m n : ℕ → Part) (i h x w : ℕ) where
 
   pub hears_length : label_most < w → Stored m i (upd (m i) (sums_at + h) (x + (w - label_most))) n → Hears Length
   unfolding hears
-  hears_length lt d = (named (rw (ne_eqb w 0 (omega arith), lt-leb w label_most lt)) d, rw (ne_eqb w 0 (omega arith), lt-leb w label_most lt))
+  hears_length lt d = (
+    named (rw (ne_eqb w 0 (omega arith), lt-leb w label_most lt)) d,
+    rw (ne_eqb w 0 (omega arith), lt-leb w label_most lt),
+  )
 
   module _ (pos : w ≢ 0) (le : w ≤ label_most) (k : ℕ) (is : k ≡ m i (marks_at + w)) where
     pub hears_known : k ≢ 0 → Stored m i (m i) n → Hears Label

@@ -13,7 +13,8 @@ use Rattle.method.specs.Rules.{Choice, fill, Go, to₁, to₃, took}
 use Rattle.method.specs.Work.{Site, heard, turn_at, became, took_one, untaken, work}
 use Rattle.method.proofs.Again.{Held}
 use Rattle.network.specs.Layout.{len_at, net_of, Laid}
-use Rattle.run_cells.specs.Part.{Part, entry_most, table_size, label_most, entry_count, last_at, delivered_at, taken_at, sums_at, marks_at, no_sum}
+use Rattle.run_cells.specs.Part.{Part, entry_most, table_size, label_most, entry_count, last_at, delivered_at, taken_at, sums_at}
+use Rattle.run_cells.specs.Part.{marks_at, no_sum}
 use Rattle.run_cells.specs.Part.{sum_of}
 use Rattle.run_cells.specs.Part.{msg_of, row, node_of, site_of}
 use Rattle.run_cells.specs.Stores.{upd, Stored, raised, waited, filled}
@@ -80,7 +81,8 @@ module _ (g : List ℕ) (la : Laid g) (ss : ℕ → List Msg) (m n : ℕ → Par
     new_sum : (v : ℕ) (a : Msg) → msg_of so_far w ≡ a → v ≡ sum_of (len_at g i h) (item (a ∷ heard ss (site_of f) h))
         → turn_at (net_of g) i ss to₁ (site_of f) ≡ took h (node_of f) to₁ → n i ≡ upd c (sums_at + h) v → GoesOn g ss i m n to₁
     new_sum v a ea ev turned e =
-        goes_on g la ss m i rd h (node_of f) to₁ turned n (ap site_of e ∙ site) (subst (λ (f' : Part). Caches g i ss f') (sym e) caches) there
+        goes_on g la ss m i rd h (node_of f) to₁ turned n (ap site_of e ∙ site)
+        (subst (λ (f' : Part). Caches g i ss f') (sym e) caches) there
       where
         site : site_of (upd c (sums_at + h) v) ≡ took_one (site_of f) h (node_of f)
         site = sum_site c h v low ∙ taken_site f h low

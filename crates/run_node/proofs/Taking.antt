@@ -21,7 +21,8 @@ use Rattle.method.proofs.Oldest.{oldest_suc}
 use Rattle.method.proofs.Working.{turn_at_ok, took_ok, took_held, took_less}
 use Rattle.method.proofs.Enough.{work_rests, work_took}
 use Rattle.network.specs.Layout.{net_of, Laid}
-use Rattle.run_cells.specs.Part.{Part, table_size, label_most, sent_most, sent_count, entry_count, lp_at, last_at, delivered_at, taken_at, sums_at}
+use Rattle.run_cells.specs.Part.{Part, table_size, label_most, sent_most, sent_count, entry_count, lp_at, last_at, delivered_at, taken_at}
+use Rattle.run_cells.specs.Part.{sums_at}
 use Rattle.run_cells.specs.Part.{marks_at, no_sum, sent_from, msg_of, node_of, site_of, entry_marked}
 use Rattle.run_cells.specs.Stores.{Rises, waited}
 use Rattle.run_cells.specs.Caches.{Caches}
@@ -109,7 +110,8 @@ module _ (g : List ℕ) (la : Laid g) (ss : ℕ → List Msg) (m : ℕ → Part)
               (took_less (net_of g) va i ss rd.lists (site_of (m i)) rd.site h nd go w),
         )
 
-  module _ (x h : ℕ) (held : Held (net_of g) i (λ k. item (heard ss (site_of (m i)) k)) (to₃ (record { sum = x; head = h })) (node_of (m i)))
+  module _ (x h : ℕ) (held : Held (net_of g) i (λ k. item (heard ss (site_of (m i)) k)) (to₃ (record { sum = x; head = h }))
+      (node_of (m i)))
     where
       abbrev p : Choice
       p = record { sum = x; head = h }
@@ -234,7 +236,15 @@ module _ (g : List ℕ) (la : Laid g) (ss : ℕ → List Msg) (m : ℕ → Part)
             let k = took_record h (fill (node_of (m i)) p w) (to₃ p) (new_label pos le z) in
             let a = took_fits h (fill (node_of (m i)) p w) (to₃ p) (new_label pos le z) in
             let b = few_entries (net_of g) la.accepted.sizes va i rd.node _ (fill (node_of (m i)) p w) k.ok in
-            omega (arith, a, b, send_longer (node_of (m i)).sent x, sent_length (m i) (m i sent_count), table_length (m i) (m i entry_count))
+            omega (
+              arith,
+              a,
+              b,
+              send_longer (node_of (m i)).sent x,
+              sent_length (m i) (m i sent_count),
+              table_length (m i)
+                  (m i entry_count),
+            )
 
       pub able : Able m i h x
       able =

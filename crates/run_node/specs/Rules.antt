@@ -1,7 +1,8 @@
 -- What the code of rules 1, 3 and 4 makes of a node's part, and what numbers it asks for.
 use Rattle.std.specs.Prelude.{◌≡◌, ℕ, zero, suc, ◌+◌, ◌-◌, ◌≤◌, ◌<◌, ltb, leb, eqb, if◌then◌else◌}
 use Rattle.method.specs.Rules.{Choice}
-use Rattle.run_cells.specs.Part.{Part, table_size, entry_most, sent_most, label_most, sent_count, entry_count, delivered_at, taken_at, sums_at}
+use Rattle.run_cells.specs.Part.{Part, table_size, entry_most, sent_most, label_most, sent_count, entry_count, delivered_at, taken_at}
+use Rattle.run_cells.specs.Part.{sums_at}
 use Rattle.run_cells.specs.Part.{marks_at}
 use Rattle.run_cells.specs.Part.{messages_at, no_sum}
 use Rattle.run_cells.specs.Stores.{upd, Rises, raised, waited, filled}

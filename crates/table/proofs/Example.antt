@@ -6,7 +6,8 @@ use Rattle.bits.specs.Bits.{as_bits, bits_of, number, field}
 use Rattle.refusal.specs.declared.Refusal.{Refusal}
 use Rattle.refusal.specs.Rows.{refusal, none, first}
 use Rattle.table.specs.File.{one}
-use Rattle.table.specs.Reader.{header_at, record_at, header_rows, field_rows, records_rows, first_one, end_rows, walk, records_in, body_rows}
+use Rattle.table.specs.Reader.{header_at, record_at, header_rows, field_rows, records_rows, first_one, end_rows, walk, records_in}
+use Rattle.table.specs.Reader.{body_rows}
 use Rattle.table.specs.Reader.{file_rows, read_rows}
 
 abbrev read : List ℕ → Refusal
@@ -46,5 +47,6 @@ pub places : map read
     ∷ refusal 18 48
     ∷ refusal 11 0
     ∷ []
-unfolding file_rows header_rows field_rows records_rows first_one end_rows walk records_in body_rows header_at record_at field number bits_of as_bits
+unfolding file_rows header_rows field_rows records_rows first_one end_rows walk records_in body_rows header_at record_at field number
+    bits_of as_bits
 places = refl

@@ -52,7 +52,8 @@ stands_fits f B p e = leb-true (p + record_size f) (length B)
 
 -- what every record taken keeps, holds of all
 module _ (f : Form) (h : Header) (B : List ℕ) (P : List Filled → ℕ → Type 0)
-    (one_more_lem : (seen : List Filled) (p : ℕ) → P seen p → p + record_size f ≤ length B → Clear (record_rows f h seen (record_at f seen B p))
+    (one_more_lem : (seen : List Filled) (p : ℕ) → P seen p → p + record_size f ≤ length B
+    → Clear (record_rows f h seen (record_at f seen B p))
     → P (record_at f seen B p ∷ seen) (p + record_size f)) where
   walk_keeps : (t : ℕ) (seen : List Filled) (p : ℕ) → P seen p → (q : ℕ) × P (walk f h t seen B p) q
   unfolding walk

@@ -1,5 +1,6 @@
 -- 01, "Bytes", the reader, and "Refusal numbers": what it makes of any bytes.
-use Rattle.std.specs.Prelude.{ℕ, zero, suc, ◌+◌, ◌-◌, ◌*◌, ◌%◌, List, [], ◌∷◌, ◌++◌, Bool, true, false, not, ◌&&◌, ◌||◌, length, ltb, leb, eqb, if◌then◌else◌}
+use Rattle.std.specs.Prelude.{ℕ, zero, suc, ◌+◌, ◌-◌, ◌*◌, ◌%◌, List, [], ◌∷◌, ◌++◌, Bool, true, false, not, ◌&&◌, ◌||◌, length, ltb, leb}
+use Rattle.std.specs.Prelude.{eqb, if◌then◌else◌}
 use Rattle.bits.specs.Bits.{bits_of, field}
 use Rattle.method.specs.Rules.{Filled, Phase, started, stopped, has}
 use Rattle.method.specs.Entries.{Entry, known, find, said, last_distance}

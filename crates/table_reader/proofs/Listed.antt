@@ -99,7 +99,8 @@ table_other g y x (suc n) room a b = go (eqb (suc n) y) refl (λ l. table_other 
         (ap (λ (r : List ℕ). with_entry r (suc n) (distance_of x) (hop_of x)) (rw e at s))
     go false t ih =
         let e : suc n ≢ y = eqb-false (suc n) y t in
-        entries_apart (with_table g n room) y (suc n) (distance_of x) (hop_of x) (distance_of (g (suc n))) (hop_of (g (suc n))) a (omega arith)
+        entries_apart (with_table g n room) y (suc n) (distance_of x) (hop_of x) (distance_of (g (suc n))) (hop_of (g (suc n))) a
+        (omega arith)
         (λ q. e (sym q))
         ∙ ap (λ (r : List ℕ). with_entry r (suc n) (distance_of (g (suc n))) (hop_of (g (suc n)))) (ih (omega arith))
 

@@ -34,7 +34,8 @@ reading_is s h d =
     rw (after_none (header_rows one (header_at one (bits_of s)) s) (body_rows one (header_at one (bits_of s)) (bits_of s)) d.sound, d.same)
     (go (Rows.refused (body_rows one h (bits_of s))) (zero_bit (bits_of s) (end_of one h (bits_of s))))
   where
-    go : (N : ℕ) (mark : Bool) → answer_by N (refused (first (body_rows one h (bits_of s)))) (accepted h (records_in one h (bits_of s)) mark)
+    go : (N : ℕ) (mark : Bool) → answer_by N (refused (first (body_rows one h (bits_of s))))
+        (accepted h (records_in one h (bits_of s)) mark)
         ≡ concluded h (records_in one h (bits_of s))
         (answer_by N (Faulty (first (body_rows one h (bits_of s)))) (if mark then Marked else Unfinished))
     go zero true = refl

@@ -39,7 +39,8 @@ module _ {before room : List ℕ} {k n x : ℕ} {F : List ℕ} where
       let j : 8 - n + n ≡ 8 = omega arith in
       let m : x % 256 % 2 ^ n ≡ x % 2 ^ n = rw j at (mod-mod-pow x (8 - n) n) in
       record {
-        bits = ap (λ (l : List ℕ). bits_of (take k room) ++ l) (sym (as_bits_mod n (x % 256)) ∙ ap (as_bits n) m ∙ as_bits_mod n x) ∙ p.bits;
+        bits = ap (λ (l : List ℕ). bits_of (take k room) ++ l) (sym (as_bits_mod n (x % 256)) ∙ ap (as_bits n) m ∙ as_bits_mod n x)
+            ∙ p.bits;
         rest = p.rest;
       }
 

@@ -67,7 +67,8 @@ length_rows t d h (suc k) = ap suc (length_rows t d h k)
 pub record Putting (t d h room₀ room : List ℕ) (k before held : ℕ) : Type 0 where
   pub small : held < 256
   pub before_is : before ≡ last_distance (listed t d h k)
-  pub pending : Pending room₀ room ((16 + 13 * k) / 8) ((16 + 13 * k) % 8) held (bits_of (take 2 room₀) ++ records_bits one (listed t d h k))
+  pub pending : Pending room₀ room ((16 + 13 * k) / 8) ((16 + 13 * k) % 8) held
+      (bits_of (take 2 room₀) ++ records_bits one (listed t d h k))
 
 pub putting_start : (t d h room : List ℕ) → Putting t d h room room 0 0 0
 unfolding listed records_bits
@@ -169,7 +170,8 @@ file_stands before room h es mark by l g p =
     let t : length (take c room) ≡ c = length-take-le c room (omega arith) in
     let s : length F / 8 ≡ c = omega (arith, length_file_bits one h es mark) in
     let e : bits_of (take c room) ≡ F =
-    sym (append-nil (bits_of (take c room))) ∙ p.bits ∙ ap (λ (n : ℕ). body_bits one h es ++ end_bits mark n) (sym (length_body one h es)) in
+    sym (append-nil (bits_of (take c room))) ∙ p.bits
+    ∙ ap (λ (n : ℕ). body_bits one h es ++ end_bits mark n) (sym (length_body one h es)) in
     rw (length_file one h es mark) (sym (take-append-drop c room)
     ∙ ap₂ (λ (a b : List ℕ). a ++ b) (sym (packed_bits (take c room) (below_take c by)) ∙ ap₂ packed (t ∙ sym s) e) p.rest)
 

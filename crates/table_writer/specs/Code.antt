@@ -1,5 +1,6 @@
 -- What the parts of the writer store, as the numbers that they hold.
-use Rattle.std.specs.Prelude.{ℕ, ◌+◌, ◌-◌, ◌*◌, ◌/◌, ◌%◌, ◌^◌, ◌≡◌, Bool, true, false, List, [], ◌∷◌, ◌++◌, set, take, drop, leb, eqb, if◌then◌else◌}
+use Rattle.std.specs.Prelude.{ℕ, ◌+◌, ◌-◌, ◌*◌, ◌/◌, ◌%◌, ◌^◌, ◌≡◌, Bool, true, false, List, [], ◌∷◌, ◌++◌, set, take, drop, leb, eqb}
+use Rattle.std.specs.Prelude.{if◌then◌else◌}
 use Rattle.bits.specs.Bits.{as_bits, bits_of}
 use Rattle.method.specs.Rules.{Filled}
 use Rattle.method.specs.Entries.{last_distance}

@@ -6,7 +6,8 @@ use Prim.Native.Nat.{ℕ, suc, ◌≤◌}
 use native.Mathlib.Omega.{arith}
 use lib.ListN.{length, get_or}
 use Rattle.method.specs.Network.{Net, Accepted}
-use Rattle.method.specs.Steps.{State, fresh, byte_step, steps, Kind, taken, idle, unknown, step, run_from, run, counted, counts_from, counts}
+use Rattle.method.specs.Steps.{State, fresh, byte_step, steps, Kind, taken, idle, unknown, step, run_from, run, counted, counts_from}
+use Rattle.method.specs.Steps.{counts}
 use Rattle.method.specs.Bounds.{most_taken}
 use Rattle.method.proofs.Proved.{laws as method-laws}
 use Rattle.method.proofs.Taken.{sharp_le, at_most_61696}

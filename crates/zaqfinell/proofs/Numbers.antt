@@ -23,7 +23,8 @@ use Rattle.network.specs.ArcList.{header_list_rows, list_rows}
 use Rattle.network.specs.Checked.{Checked, from_bytes, from_list}
 use Rattle.table.specs.File.{one}
 use Rattle.table.specs.declared.Header.{Header}
-use Rattle.table.specs.Reader.{header_at, header_rows, field_rows, record_rows, records_rows, end_rows, next_rows, body_rows, file_rows, records_in}
+use Rattle.table.specs.Reader.{header_at, header_rows, field_rows, record_rows, records_rows, end_rows, next_rows, body_rows, file_rows}
+use Rattle.table.specs.Reader.{records_in}
 use Rattle.table.specs.Reader.{end_of, stands, record_at}
 use Rattle.call.specs.Calls.{run_rows, entry_rows, route_rows, pack_rows, write_rows}
 use Rattle.zaqfinell.specs.Numbers.{of_bytes, of_list, of_file, NoneOr, NumbersOf, Numbers}

@@ -24,14 +24,15 @@ run-requires c =
 
 pub first_hop-h-requires : goal.first_hop-h-requires
 first_hop-h-requires c =
-    let ready : Asked (cells c.run.new.s) c.args.node c.args.target = let a = c.args in asks a.found a.node a.target _ c.refused_for-f.ensures c.if-f-ne0.false c.requires a.steps.now _ _ c.run.ensures in
+    let a = c.args in
+    let ready = asks a.found a.node a.target _ c.refused_for-f.ensures c.if-f-ne0.false c.requires a.steps.now _ _ c.run.ensures in
     let r = readable _ _ _ ready in (r.0, r.1, r.2, r.3, search rules)
 
 pub beside-requires : goal.beside-requires
 beside-requires c =
-    let ready : Asked (cells c.run.new.s) c.args.node c.args.target = let a = c.args in asks a.found a.node a.target _ c.refused_for-f.ensures c.if-f-ne0.false c.requires a.steps.now _ _ c.run.ensures in
-    let q = ready in
-    (q, omega (arith, hop_low _ _ _ q, c.first_hop-h.ensures), search rules)
+    let a = c.args in
+    let ready = asks a.found a.node a.target _ c.refused_for-f.ensures c.if-f-ne0.false c.requires a.steps.now _ _ c.run.ensures in
+    (ready, omega (arith, hop_low _ _ _ ready, c.first_hop-h.ensures), search rules)
 
 pub returns : goal.returns
 returns c net finds =

@@ -23,8 +23,9 @@ run-requires c =
 
 pub lay_way-k-requires : goal.lay_way-k-requires
 lay_way-k-requires c =
-    let ready : Asked (cells c.run.new.s) c.args.node c.args.target = let a = c.args in asks a.found a.node a.target _ c.refused_for-f.ensures c.if-f-ne0.false c.requires a.steps.now _ _ c.run.ensures in
-    let q = ready in (q, omega (arith, passed_low _ _ _ q), search rules)
+    let a = c.args in
+    let ready = asks a.found a.node a.target _ c.refused_for-f.ensures c.if-f-ne0.false c.requires a.steps.now _ _ c.run.ensures in
+    (ready, omega (arith, passed_low _ _ _ ready), search rules)
 
 pub returns-then-room-k : goal.returns-then-room-k
 returns-then-room-k c net finds =
@@ -37,7 +38,8 @@ returns-then-room-k c net finds =
 
 pub lay_way-requires : goal.lay_way-requires
 lay_way-requires c =
-    let ready : Asked (cells c.run.new.s) c.args.node c.args.target = let a = c.args in asks a.found a.node a.target _ c.refused_for-f.ensures c.if-f-ne0.false c.requires a.steps.now _ _ c.run.ensures in (
+    let a = c.args in
+    let ready = asks a.found a.node a.target _ c.refused_for-f.ensures c.if-f-ne0.false c.requires a.steps.now _ _ c.run.ensures in (
       ready,
       omega (arith, c.lay_way-k.ensures.0, c.if-room-k.false),
       search rules,
@@ -45,12 +47,9 @@ lay_way-requires c =
 
 pub beside-requires : goal.beside-requires
 beside-requires c =
-    let ready : Asked (cells c.run.new.s) c.args.node c.args.target = let a = c.args in asks a.found a.node a.target _ c.refused_for-f.ensures c.if-f-ne0.false c.requires a.steps.now _ _ c.run.ensures in
-    let q = ready in (
-      q,
-      omega (arith, passed_low _ _ _ q, c.lay_way-k.ensures.0),
-      search rules,
-    )
+    let a = c.args in
+    let ready = asks a.found a.node a.target _ c.refused_for-f.ensures c.if-f-ne0.false c.requires a.steps.now _ _ c.run.ensures in
+    (ready, omega (arith, passed_low _ _ _ ready, c.lay_way-k.ensures.0), search rules)
 
 pub returns : goal.returns
 returns c net finds =

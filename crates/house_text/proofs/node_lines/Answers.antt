@@ -4,19 +4,24 @@ use Rattle.house_text.specs.Lines.{entry_line}
 use Rattle.house_text.specs.Handed.{handed_entry}
 use Rattle.house_text.proofs.Rising.{next_has_room, one_more_lem}
 use borrow.Author.Rules.{rules}
+use Prim.Native.Nat.{ℕ}
 use native.Mathlib.Omega.{arith}
 use Rattle.house_text.proofs.node_lines.Goals as goal
 
 pub line-next-requires : goal.line-next-requires
 line-next-requires c =
+    let a = c.args in
+    let text = λ (x : ℕ). entry_line a.node x (handed_entry a.n a.entries.now a.node x) in
     record {
       n_bound = search rules;
-      has_room = next_has_room (λ x. entry_line c.args.node x (handed_entry c.args.n c.args.entries.now c.args.node x)) c.loop-k.k c.loop-k.invariant.2 c.args.n (omega arith) c.requires.has_room;
+      has_room = next_has_room text c.loop-k.k c.loop-k.invariant.2 a.n (omega arith) c.requires.has_room;
     }
 
 pub loop-k-preserved : goal.loop-k-preserved
 loop-k-preserved c =
-    (search rules, search rules, one_more_lem (λ x. entry_line c.args.node x (handed_entry c.args.n c.args.entries.now c.args.node x)) c.loop-k.k c.loop-k.invariant.2 c.line-next.ensures)
+    let a = c.args in
+    let text = λ (x : ℕ). entry_line a.node x (handed_entry a.n a.entries.now a.node x) in
+    (search rules, search rules, one_more_lem text c.loop-k.k c.loop-k.invariant.2 c.line-next.ensures)
 
 pub returns : goal.returns
 returns c =

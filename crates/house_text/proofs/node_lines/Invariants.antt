@@ -9,7 +9,8 @@ use Rattle.house_text.proofs.node_lines.Given as goal
 
 abbrev pub invariant-loop-k : goal.invariant-loop-k
 invariant-loop-k l =
-    (l.k ≤ l.n) × (length l.room ≡ length l.initial.room) × Written l.initial.room l.at (node_lines (handed_entry l.n l.entries) l.k l.node) l.room l.next
+    (l.k ≤ l.n) × (length l.room ≡ length l.initial.room)
+    × Written l.initial.room l.at (node_lines (handed_entry l.n l.entries) l.k l.node) l.room l.next
 
 abbrev pub decreases-loop-k : goal.decreases-loop-k
 decreases-loop-k l = l.n - l.k

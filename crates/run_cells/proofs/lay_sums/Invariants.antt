@@ -8,7 +8,8 @@ use Rattle.run_cells.proofs.lay_sums.Given as goal
 
 abbrev pub invariant-loop-h : goal.invariant-loop-h
 invariant-loop-h l =
-    (l.h ≤ table_size) × (length l.s ≡ state_size) × Stored (cells l.initial.s) l.i (with_sums l.net l.i (cells l.initial.s l.i) l.h) (cells l.s)
+    (l.h ≤ table_size) × (length l.s ≡ state_size)
+    × Stored (cells l.initial.s) l.i (with_sums l.net l.i (cells l.initial.s l.i) l.h) (cells l.s)
 
 abbrev pub decreases-loop-h : goal.decreases-loop-h
 decreases-loop-h l =

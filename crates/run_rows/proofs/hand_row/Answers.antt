@@ -34,11 +34,13 @@ overflow_cast-first_hop c =
 
 pub loop-k-preserved : goal.loop-k-preserved
 loop-k-preserved c =
-    let l = c.loop-k in (
+    let a = c.args in
+    let l = c.loop-k in
+    let entry = entry_of (state_of (cells a.s.now) a.i).node in (
       omega arith,
       search rules,
-      row_next (entry_of (state_of (cells c.args.s.now) c.args.i).node) c.args.at l.k (c.args.at + 2 * l.k) c.distance.result.0 c.first_hop.result
-          c.args.entries.now l.entries c.hand_entry.new.entries l.invariant.2 refl c.distance.ensures c.first_hop.ensures c.hand_entry.ensures,
+      row_next entry a.at l.k (a.at + 2 * l.k) c.distance.result.0 c.first_hop.result a.entries.now l.entries c.hand_entry.new.entries
+          l.invariant.2 refl c.distance.ensures c.first_hop.ensures c.hand_entry.ensures,
     )
 
 pub returns : goal.returns

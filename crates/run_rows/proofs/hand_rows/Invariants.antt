@@ -10,7 +10,8 @@ use Rattle.run_rows.proofs.hand_rows.Given as goal
 
 abbrev pub invariant-loop-i : goal.invariant-loop-i
 invariant-loop-i l =
-    (l.i ≤ l.n) × (length l.entries ≡ length l.initial.entries) × (l.entries ≡ sets l.initial.entries 0 (row_numbers (λ i. entry_of (state_of (cells l.s) i).node) l.n l.i))
+    (l.i ≤ l.n) × (length l.entries ≡ length l.initial.entries)
+    × (l.entries ≡ sets l.initial.entries 0 (row_numbers (λ i. entry_of (state_of (cells l.s) i).node) l.n l.i))
 
 abbrev pub decreases-loop-i : goal.decreases-loop-i
 decreases-loop-i l = l.n - l.i

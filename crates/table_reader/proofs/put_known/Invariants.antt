@@ -12,7 +12,8 @@ use Rattle.table_reader.proofs.put_known.Given as goal
 
 abbrev pub invariant-loop-after : goal.invariant-loop-after
 invariant-loop-after l =
-    (es : List Filled) × At one l.h (bits_of l.file) l.c es × (length l.room ≡ length l.initial.room) × (l.room ≡ with_records es l.initial.room)
+    (es : List Filled) × At one l.h (bits_of l.file) l.c es × (length l.room ≡ length l.initial.room)
+    × (l.room ≡ with_records es l.initial.room)
 
 abbrev pub decreases-loop-after : goal.decreases-loop-after
 decreases-loop-after l = 224 - l.c.at

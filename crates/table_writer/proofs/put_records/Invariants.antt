@@ -7,7 +7,8 @@ use Rattle.table_writer.proofs.put_records.Given as goal
 
 abbrev pub invariant-loop-k : goal.invariant-loop-k
 invariant-loop-k l =
-    (l.k ≤ l.count) × (length l.room ≡ length l.initial.room) × Putting l.targets l.distances l.hops l.initial.room l.room l.k l.before l.held
+    (l.k ≤ l.count) × (length l.room ≡ length l.initial.room)
+    × Putting l.targets l.distances l.hops l.initial.room l.room l.k l.before l.held
 
 abbrev pub decreases-loop-k : goal.decreases-loop-k
 decreases-loop-k l = l.count - l.k
