@@ -109,12 +109,8 @@ abbrev pub row : Part → ℕ → ℕ → ℕ
 row f base h = if ltb h table_size then f (base + h) else 0
 
 abbrev pub node_of : Part → Node
-node_of f = record {
-  phase = phase_named (f phase_at);
-  sent = sent_from f (f sent_count);
-  table = table_from f (f entry_count);
-  lp = f lp_at;
-}
+node_of f =
+    record { phase = phase_named (f phase_at); sent = sent_from f (f sent_count); table = table_from f (f entry_count); lp = f lp_at }
 
 abbrev pub site_of : Part → Site
 site_of f = record { node = node_of f; delivered = row f delivered_at; taken = row f taken_at }
