@@ -1,4 +1,5 @@
-# Sourced by the tests that read what `rt ci` printed: leaves the path of that in `log`, sources verdict.sh, and ends where there is no file.
+# Sourced by the tests that read what `rt ci` printed: leaves the path of that in `log`, and sources verdict.sh. Ends where there is no
+# such file.
 log=${1:-}
 [ -f "$log" ] && log=$(cd "$(dirname "$log")" && pwd)/$(basename "$log")
 . "$(dirname "$0")/verdict.sh"
