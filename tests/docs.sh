@@ -46,7 +46,10 @@ verdict "network Q is $(digits_of '### Network Q, bit by bit') in docs/FORMATS.m
 verdict "file P4 is $(digits_of '### File P4, bit by bit') in docs/FORMATS.md" test "$(digits_of '### File P4, bit by bit')" = 1024888c8440
 
 verdict "a document says 'behind'" test -z "$(grep -rn behind README.md include docs)"
-# a word in capitals alone on a line, or one with underscores that is no name of the header, is a place that somebody meant to fill
-verdict 'no document has an unfilled place' test -z "$(grep -ohE '^[A-Z]+$|\b[A-Z]+_[A-Z_]+\b' README.md docs/*.md | grep -v '^ZAQ_')"
+# a word in capitals alone on a line, or one with underscores that names nothing in the header or the code, is a place that somebody meant
+# to fill
+constants=$(grep -ohE 'const [A-Z]+_[A-Z_]+:' crates/*/src/*.rt | sed -E 's/const (.*):/\1/')
+verdict 'no document has an unfilled place' \
+    test -z "$(grep -ohE '^[A-Z]+$|\b[A-Z]+_[A-Z_]+\b' README.md docs/*.md | grep -v '^ZAQ_' | grep -vxF "$constants")"
 
 closing_line

@@ -24,7 +24,7 @@ BEGIN {
     know("@llvm.memmove.p0.p0.i64 @llvm.memcpy.p0.p0.i64 @llvm.memset.p0.i64 @llvm.trap")
     # what the toolchain has LLVM assume
     know("inbounds nuw nsw exact noundef !noundef !range immarg")
-    know("noinline nounwind nocallback nofree willreturn cold noreturn memory argmem inaccessiblemem read write readwrite readonly writeonly")
+    know("noinline alwaysinline nounwind nocallback nofree willreturn cold noreturn memory argmem inaccessiblemem read write readwrite readonly writeonly")
     know("captures none")
     # of the library's inner functions only: target.sh holds the header's calls to what C hands over
     know("zeroext")

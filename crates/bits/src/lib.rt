@@ -5,13 +5,6 @@ ghost use Rattle.std.specs.Prelude.{◌≡◌, ◌+◌, ◌-◌, ◌*◌, ◌/�
 ghost use Rattle.bits.specs.Bits.{bits_of, field};
 ghost use Rattle.bits.specs.Window.{window_at};
 
-// A byte in a type that holds three of them.
-fn wide(x: u8) -> u32
-    ensures { (result ≡ x) × (result < 256) }
-{
-    x as u32
-}
-
 // 2 to the d.
 pub fn power(d: usize) -> u32
     requires { d ≤ 24 }
@@ -21,13 +14,10 @@ pub fn power(d: usize) -> u32
 }
 
 // Byte k, and 0 after the end, where a field's three bytes may reach.
-fn byte(s: &[u8], k: usize) -> u32
-    ensures { (result ≡ get_or s.now k 0) × (result < 256) }
+fn byte(s: &[u8], k: usize) -> u8
+    ensures { result ≡ get_or s.now k 0 }
 {
-    if k < s.len() {
-        return wide(s[k]);
-    }
-    0
+    s.get(k).copied().unwrap_or(0)
 }
 
 // The three bytes from byte k on.
@@ -35,15 +25,16 @@ pub fn three(s: &[u8], k: usize) -> u32
     requires { k + 2 < length s.now }
     ensures { (result ≡ window_at s.now k) × (result < 16777216) }
 {
-    wide(s[k]) * 65536 + wide(s[k + 1]) * 256 + wide(s[k + 2])
+    u32::from_be_bytes([0, s[k], s[k + 1], s[k + 2]])
 }
 
-// The two bytes from byte k on.
+// The two bytes from byte k on. One function for two and three, with their number as a const parameter, would be a loop where each of
+// these is one call of the library: no plainer.
 pub fn two(s: &[u8], k: usize) -> u32
     requires { k + 1 < length s.now }
     ensures { (result ≡ get_or s.now k 0 * 256 + get_or s.now (k + 1) 0) × (result < 65536) }
 {
-    wide(s[k]) * 256 + wide(s[k + 1])
+    u32::from(u16::from_be_bytes([s[k], s[k + 1]]))
 }
 
 // The three bytes from the one that has bit p on: a field of at most 16 bits touches no more.
@@ -55,7 +46,7 @@ fn window(s: &[u8], p: usize) -> u32
     if k + 2 < s.len() {
         return three(s, k);
     }
-    byte(s, k) * 65536 + byte(s, k + 1) * 256 + byte(s, k + 2)
+    u32::from_be_bytes([0, byte(s, k), byte(s, k + 1), byte(s, k + 2)])
 }
 
 // How many bits of the window stand after the field of w bits at p.
@@ -79,5 +70,5 @@ pub fn nibble(s: &[u8], k: usize) -> u32
     requires { k < 2 * length s.now }
     ensures { (result ≡ field (bits_of s.now) (4 * k) 4) × (result < 16) }
 {
-    (wide(s[k / 2]) >> (4 - 4 * (k % 2))) % 16
+    (u32::from(s[k / 2]) >> (4 - 4 * (k % 2))) % 16
 }

@@ -1,4 +1,4 @@
 pub mod Asked
-pub mod Passed
+pub mod WayFew
 pub mod Found
 pub mod FilesSmall

@@ -1,14 +1,12 @@
 -- What the public calls that take a table file answer, and what they leave in a lent room; and what a file that is written leaves there.
-use Rattle.std.specs.Prelude.{◌≡◌, List, ◌++◌, ℕ, ◌*◌, ◌<◌, length}
+use Rattle.std.specs.Prelude.{◌≡◌, Result, Ok, Err, List, ◌++◌, ℕ, ◌*◌, length}
 use Rattle.bits.specs.Bits.{bits_of}
 use Rattle.method.specs.Room.{begins}
 use Rattle.method.specs.Marks.{entry_numbers}
-use Rattle.refusal.specs.declared.Refusal.{Refusal}
+use Rattle.refusal.specs.Rows.{Refusal}
 use Rattle.refusal.specs.Rows.{Row, none, room_rows, first, answer}
 use Rattle.table.specs.File.{one}
 use Rattle.table.specs.Reader.{header_at, file_rows, Reading, refused, accepted, reading, entry_in, Read, refusal, says, entry_read}
-use Rattle.table.specs.declared.Outcome.{Outcome}
-use Rattle.table.specs.declared.Outcome.TheVariants.{Written, Refused}
 use Rattle.call.specs.Answers.{values, entry_values}
 
 -- one entry: the refusal's number only, or the entry
@@ -21,16 +19,16 @@ read_answer (refusal r) = r.number
 read_answer (says e) = entry_values e
 
 -- numbers that are written into a room from its start on: how many, or 13 if the room is short
-abbrev pub outcome : List ℕ → List ℕ → Outcome
-outcome what room = answer (first (room_rows (length room) (length what))) Refused (Written (length what))
+abbrev pub outcome : List ℕ → List ℕ → Result ℕ Refusal
+outcome what room = answer (first (room_rows (length room) (length what))) Err (Ok (length what))
 
 -- "A refusal yields its number only and writes nothing." "Bytes of the room beyond the file stay."
 abbrev pub room_after : List ℕ → List ℕ → List ℕ
 room_after what room = answer (first (room_rows (length room) (length what))) (λ r. room) (begins what room)
 
 -- all entries of a file: its own refusal comes before 13
-abbrev pub entries_outcome : Reading → List ℕ → Outcome
-entries_outcome (refused r) room = Refused r
+abbrev pub entries_outcome : Reading → List ℕ → Result ℕ Refusal
+entries_outcome (refused r) room = Err r
 entries_outcome (accepted h es mark) room = outcome (entry_numbers (entry_in h es mark) h.n) room
 
 -- and what they leave in the room
@@ -43,18 +41,13 @@ abbrev pub table_rows : List ℕ → ℕ → List Row
 table_rows s wide = file_rows one s ++ room_rows wide (2 * (header_at one (bits_of s)).n)
 
 -- an outcome as a refusal, and as one answer: how many numbers were written, or the refusal's number only
-abbrev pub outcome_refusal : Outcome → Refusal
-outcome_refusal (Written k) = none
-outcome_refusal (Refused r) = r
+abbrev pub outcome_refusal : Result ℕ Refusal → Refusal
+outcome_refusal (Ok k) = none
+outcome_refusal (Err r) = r
 
-abbrev pub outcome_answer : Outcome → ℕ
-outcome_answer (Written k) = values k 0
-outcome_answer (Refused r) = r.number
-
--- an outcome that one answer has room for
-abbrev pub OneAnswer : Outcome → Type 0
-OneAnswer (Written k) = k < 256
-OneAnswer (Refused r) = Unit {0}
+abbrev pub outcome_answer : Result ℕ Refusal → ℕ
+outcome_answer (Ok k) = values k 0
+outcome_answer (Err r) = r.number
 
 -- zaq_read_entry
 abbrev pub ReadPromise : List ℕ → ℕ → ℕ → Type 0

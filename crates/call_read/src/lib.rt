@@ -3,16 +3,13 @@
 
 ghost use Rattle.call.specs.Files.{ReadPromise, TablePromise};
 
-use table::Answer;
-
 // The entry for a target in a table file. Refusals 14 to 18, then 11.
 pub fn read_entry(file: &[u8], target: u32) -> u32
     ensures { ReadPromise file.now target result }
 {
-    let read = table_reader::read_entry(file, target);
-    match read {
-        Answer::Entry(distance, hop) => call::values(hop as u32, distance.0 as u32),
-        Answer::Refused(r) => r.number,
+    match table_reader::read_entry(file, target) {
+        Ok(entry) => call::entered(Ok(entry)),
+        Err(refusal) => u32::from(refusal.reason),
     }
 }
 
@@ -20,5 +17,8 @@ pub fn read_entry(file: &[u8], target: u32) -> u32
 pub fn read_table(file: &[u8], room: &mut [u16]) -> u32
     ensures { TablePromise file.now room.old result room.new }
 {
-    call::packed(table_reader::read_entries(file, room))
+    match table_reader::read_entries(file, room) {
+        Ok(count) => call::written(Ok(count as u16)),
+        Err(refusal) => u32::from(refusal.reason),
+    }
 }

@@ -1,70 +1,67 @@
--- The entries after a node's first, lent in place: three parts of the array that the writer takes as its lists.
-use mathlib.Core.Path.{◌≡◌, refl, ap, ap₂, subst, ◌∙◌}
+-- The entries after a node's first are the records that the writer is lent.
+use mathlib.Core.Path.{◌≡◌, refl, sym, ap, ap₂, ◌∙◌}
 use mathlib.Core.Bool.{Bool}
 use mathlib.Core.List.{List, ◌∷◌}
-use Prim.Native.Nat.{ℕ, zero, suc, ◌+◌, ◌-◌, ◌*◌, ◌≤◌, ◌<◌, min}
+use Prim.Native.Nat.{ℕ, zero, suc, ◌+◌, ◌-◌, ◌≤◌, ◌<◌}
 use native.Mathlib.Omega.{arith}
-use lib.ListN.{length, get_or, take, drop, length-drop}
-use lib.Seq.{get_or-take, get_or-drop, length-take-le}
+use native.Mathlib.Numerals.{add-one}
+use lib.ListN.{length, get_or, take, drop, length-drop, get_or-map}
+use lib.Seq.{get_or-drop}
 use Rattle.method.specs.Rules.{Filled}
-use Rattle.network.specs.Layout.{net_of}
-use Rattle.run_cells.specs.Part.{table_size, entry_count, targets_at, distances_at, hops_at, part_size, state_size, cells, entry_at}
-use Rattle.run_cells.specs.Part.{site_of}
-use Rattle.run_cells.proofs.Stored.{cell_is}
+use Rattle.method.specs.Meant.{filled}
+use Rattle.method.specs.declared.Filled.{Filled as FilledInCode}
 use Rattle.method.specs.Entries.{is_stopped}
+use Rattle.network.specs.Layout.{net_of}
+use Rattle.network.specs.declared.Layout.{Layout}
+use Rattle.run_cells.specs.declared.Part.{Part as PartInCode}
+use Rattle.run_cells.specs.declared.State.{State}
+use Rattle.run_cells.specs.Part.{Part, entry_most, entry_count, targets_at, distances_at, hops_at, cells, entry_at, site_of, numbers}
+use Rattle.run_cells.proofs.Cleared.{nobody}
+use Rattle.run_cells.proofs.Loads.{filled_is, target_is, distance_is, hop_is}
+use Rattle.run_cells.proofs.Stored.{blank, Placed, own_part}
 use Rattle.table.specs.File.{one, file_of, header_for}
-use Rattle.call.specs.Files.{outcome, room_after}
-use Rattle.table_writer.specs.Lent.{listed, lent, lent_file}
-use Rattle.table.specs.declared.Outcome.{Outcome}
+use Rattle.table_writer.specs.Lent.{newest_first, lent_file}
+use Rattle.table_writer.proofs.Writing.{newest_more}
 use Rattle.call_write.specs.Filing.{after_first, held_file}
 
--- the 15 numbers after the first of those from place o on, in part i
-abbrev pub part : List ℕ → ℕ → ℕ → List ℕ
-part s i o = take 15 (drop ((i - 1) * part_size + 1 + o) s)
+module _ (s : State) (i : ℕ) (pos : 1 ≤ i) (placed : Placed s i) where
+  abbrev p : PartInCode
+  p = get_or s.parts (i - 1) blank
 
-pub fifteen : (a : ℕ) → a + 15 - a ≡ 15
-fifteen a = omega arith
+  own : cells s i ≡ numbers p
+  own = own_part s i blank pos placed
 
-module _ (s : List ℕ) (i : ℕ) (pos : 1 ≤ i) (lt : i < table_size) (size : length s ≡ state_size) where
-  part_at : (o k : ℕ) → k < 15 → o + 16 ≤ part_size → get_or (part s i o) k 0 ≡ cells s i (o + suc k)
-  part_at o k h g =
-      let e : (i - 1) * part_size + 1 + o + k ≡ (i - 1) * part_size + (o + suc k) = omega arith in
-      get_or-take 15 (drop ((i - 1) * part_size + 1 + o) s) k 0 h ∙ get_or-drop ((i - 1) * part_size + 1 + o) s k 0
-      ∙ ap (λ (q : ℕ). get_or s q 0) e
-      ∙ cell_is s i (o + suc k) pos (omega arith)
+  pub count_is : cells s i entry_count ≡ p.filled
+  count_is = ap (λ (f : Part). f entry_count) own ∙ filled_is p
 
-  part_size_lem : (o : ℕ) → o + 16 ≤ part_size → length (part s i o) ≡ 15
-  part_size_lem o g = length-take-le 15 (drop ((i - 1) * part_size + 1 + o) s)
-      (rw (length-drop ((i - 1) * part_size + 1 + o) s) (omega arith))
+  entry_is : (k : ℕ) → k < entry_most → filled (get_or p.entries k nobody) ≡ entry_at (cells s i) k
+  entry_is k lt =
+      let t : cells s i (targets_at + k) ≡ (get_or p.entries k nobody).target =
+      ap (λ (f : Part). f (targets_at + k)) own ∙ target_is p k lt ∙ get_or-map (λ (e : FilledInCode). e.target) p.entries k nobody in
+      let d : cells s i (distances_at + k) ≡ (get_or p.entries k nobody).distance =
+      ap (λ (f : Part). f (distances_at + k)) own ∙ distance_is p k lt
+      ∙ get_or-map (λ (e : FilledInCode). e.distance) p.entries k nobody in
+      let h : cells s i (hops_at + k) ≡ (get_or p.entries k nobody).hop =
+      ap (λ (f : Part). f (hops_at + k)) own ∙ hop_is p k lt ∙ get_or-map (λ (e : FilledInCode). e.hop) p.entries k nobody in
+      rw (t, d, h)
 
-  rows_after : (k : ℕ) → k ≤ 15 → listed (part s i targets_at) (part s i distances_at) (part s i hops_at) k ≡ after_first (cells s i) k
-  unfolding listed
-  rows_after zero h = refl
-  rows_after (suc k) h =
-      rw (part_at targets_at k h (omega arith), part_at distances_at k h (omega arith), part_at hops_at k h (omega arith))
-      (ap (λ (r : List Filled). entry_at (cells s i) (suc k) ∷ r) (rows_after k (omega arith)))
+  after : (k : ℕ) → k < entry_most → k < length p.entries → newest_first (take k (drop 1 p.entries)) ≡ after_first (cells s i) k
+  after zero lt few = refl
+  after (suc k) lt few =
+      let rest : length (drop 1 p.entries) ≡ length p.entries - 1 = length-drop 1 p.entries in
+      ap (λ (j : ℕ). newest_first (take j (drop 1 p.entries))) (sym (add-one k))
+      ∙ newest_more (drop 1 p.entries) k nobody (omega (arith, rest))
+      ∙ ap₂ (λ (e : FilledInCode) (es : List Filled). filled e ∷ es) (get_or-drop 1 p.entries k nobody
+      ∙ ap (λ (j : ℕ). get_or p.entries j nobody) (omega arith))
+      (after k (omega arith) (omega arith))
+      ∙ ap (λ (e : Filled). e ∷ after_first (cells s i) k) (entry_is (suc k) lt)
 
-  lent_after : (k : ℕ) → k ≤ 15 → lent (part s i targets_at) (part s i distances_at) (part s i hops_at) k ≡ after_first (cells s i) k
-  lent_after k h =
-      let a = part_size_lem targets_at (omega arith) in
-      let b = part_size_lem distances_at (omega arith) in
-      let d = part_size_lem hops_at (omega arith) in
-      let e : min (min k (length (part s i targets_at))) (min (length (part s i distances_at)) (length (part s i hops_at))) ≡ k =
-      omega arith in
-      rw e (rows_after k h)
-
-  -- so the file of these lists is the one that the part holds
-  pub lent_file_lem : (g : List ℕ) (a b d : ℕ) → a ≡ 15 → b ≡ 15 → d ≡ 15 → (r : ℕ) → r ≡ cells s i entry_count → r ≤ 16 → (mark : Bool)
-      → mark ≡ is_stopped (site_of (cells s i))
-      → lent_file (header_for (net_of g) i) (take a (drop ((i - 1) * part_size + 1 + targets_at) s))
-      (take b (drop ((i - 1) * part_size + 1 + distances_at) s)) (take d (drop ((i - 1) * part_size + 1 + hops_at) s)) (r - 1) mark
-      ≡ held_file g i (cells s i)
-  lent_file_lem g a b d ea eb ed r er h mark em =
-      rw (ea, eb, ed) (ap₂ (file_of one (header_for (net_of g) i))
-      (lent_after (r - 1) (omega arith) ∙ ap (λ (k : ℕ). after_first (cells s i) (k - 1)) er) em)
-
--- what was written of a file was written of its equal
-pub same_written : (what file room : List ℕ) (o : Outcome) (after : List ℕ) → what ≡ file
-    → (o ≡ outcome what room) × (after ≡ room_after what room)
-    → (o ≡ outcome file room) × (after ≡ room_after file room)
-same_written what file room o after e = subst (λ (w : List ℕ). (o ≡ outcome w room) × (after ≡ room_after w room)) e
+  -- so the file of these records is the one that the part holds
+  pub lent_held : (g : Layout) (records : List FilledInCode) (mark : Bool) → 1 ≤ p.filled → p.filled ≤ 16 → length p.entries ≡ 16
+      → records ≡ take (p.filled - 1) (drop 1 p.entries) → mark ≡ is_stopped (site_of (cells s i))
+      → lent_file (header_for (net_of g) i) records mark ≡ held_file g i (cells s i)
+  lent_held g records mark some few sixteen is em =
+      ap₂ (file_of one (header_for (net_of g) i))
+      (ap newest_first is ∙ after (p.filled - 1) (omega arith) (omega arith)
+      ∙ ap (λ (k : ℕ). after_first (cells s i) (k - 1)) (sym count_is))
+      em

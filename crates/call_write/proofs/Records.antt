@@ -19,6 +19,7 @@ use Rattle.method.proofs.Always.{run_lawful}
 use Rattle.method.proofs.Said.{once, filled_known}
 use Rattle.method.proofs.Hops.{onto}
 use Rattle.network.specs.Layout.{net_of, Laid}
+use Rattle.network.specs.declared.Layout.{Layout}
 use Rattle.run_cells.specs.Part.{Part, entry_count, targets_at, entry_at, table_from, state_of}
 use Rattle.run.specs.Ran.{Ran}
 use Rattle.run_entries.proofs.Reading.{ran_records}
@@ -85,8 +86,8 @@ after_first_lem f lmax i (suc k) own = go (λ w. after_first_lem f lmax i k w) (
           more = λ x m. own.more x (inr m);
         }))
 
--- so after a run the array holds the file
-module _ (g bs : List ℕ) (m : ℕ → Part) (c : Counts) (laid : Laid g) (ran : Ran g bs m c) (i : ℕ)
+-- so after a run the part holds the file
+module _ (g : Layout) (bs : List ℕ) (m : ℕ → Part) (c : Counts) (laid : Laid g) (ran : Ran g bs m c) (i : ℕ)
     (ne : phase (net_of g) (steps bs) i ≢ unstarted) where
   own_first : OwnFirst (net_of g).lmax i (table_from (m i) (m i entry_count))
   own_first =

@@ -1,2 +1,3 @@
 pub mod Decimal
 pub mod Writing
+pub mod Texts

@@ -1,3 +1,4 @@
 pub mod Decimal
 pub mod Room
 pub mod Writing
+pub mod Texts

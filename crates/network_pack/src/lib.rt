@@ -1,21 +1,20 @@
-// An arc list that is laid out, made bytes.
+// A network that is accepted, made bytes.
 #![tactic(auto)]
 
 ghost use Rattle.std.specs.Prelude.{◌≡◌, [], ◌∷◌, ◌+◌, ◌≤◌, ◌<◌, length};
 ghost use Rattle.std.proofs.lemmas.List.Edits.{sets};
 ghost use Rattle.method.specs.Room.{begins};
 ghost use Rattle.network.specs.Bytes;
-ghost use Rattle.network.specs.Fits.{Fits, AllFit};
-ghost use Rattle.network.specs.Layout.{arc_on, arc_at, arcs_from, net_of, Laid};
-ghost use Rattle.network.specs.Found.{Consistent};
-ghost use Rattle.network_list.specs.Given.{given};
+ghost use Rattle.network.specs.Fits.{Fits};
+ghost use Rattle.network.specs.Given.{given};
+ghost use Rattle.network.specs.Layout.{arc_at, net_of};
 ghost use Rattle.call.specs.Calls.{net_bytes};
-ghost use Rattle.call.specs.Kept.{Packs};
+ghost use Rattle.call.specs.Kept.{written, Packs};
 ghost use Rattle.network_pack.specs.Pairs.{pair_bytes};
 ghost use Rattle.network_pack.specs.Pairs;
 
-use network::{Found, LAYOUT};
-use network_list::Arc;
+use network::{Arc, Network};
+use refusal::Reason;
 
 // Two fields of 4 bits in a byte.
 fn halves(x: u8, y: u8) -> u8
@@ -25,31 +24,25 @@ fn halves(x: u8, y: u8) -> u8
     16 * x + y
 }
 
-// The arc at a site.
-fn arc_on(laid: &[u8; LAYOUT], site: u8) -> Arc
-    ensures { given result ≡ arc_on laid.now site }
+// Arc k.
+fn arc_at(net: &Network, k: usize) -> Arc
+    requires { k < net.now.layout.count }
+    ensures laid { given result ≡ arc_at net.now.layout k }
+    ensures fits { Fits (given result) }
 {
-    let s = site as usize;
+    let site = net.layout.sites[k];
     Arc {
-        tail: (s / 16 + 1) as u8,
-        head: (s % 16 + 1) as u8,
-        len: laid[network::LENGTHS + s],
+        tail: site / 16 + 1,
+        head: site % 16 + 1,
+        len: net.layout.lengths[usize::from(site)],
     }
 }
 
-// Arc k of what is laid out.
-fn arc_at(laid: &[u8; LAYOUT], k: usize) -> Arc
-    requires { k < 240 }
-    ensures { given result ≡ arc_at laid.now k }
-{
-    arc_on(laid, laid[network::SITES + k])
-}
-
 // How many bytes a network of m arcs has.
-fn bytes_of(m: u8) -> usize
+fn bytes_of(m: u8) -> u16
     ensures { result ≡ Bytes.size m }
 {
-    3 + (12 * m as usize + 7) / 8
+    3 + (12 * u16::from(m) + 7) / 8
 }
 
 // Writes two arcs in the three bytes from p on.
@@ -62,7 +55,8 @@ fn put_pair(room: &mut [u8], p: usize, a: Arc, b: Arc)
     room[p + 2] = halves(b.head - 1, b.len);
 }
 
-// Writes an odd last arc: the second half of its second byte is 0.
+// Writes an odd last arc: the second half of its second byte is 0. Two bytes, where a pair has three: one function of both would have a
+// case for each; no plainer.
 fn put_last(room: &mut [u8], p: usize, a: Arc)
     requires { Fits (given a) × (p + 1 < length room.old) }
     ensures { room.new ≡ sets room.old p (pair_bytes (given a ∷ [])) }
@@ -71,47 +65,40 @@ fn put_last(room: &mut [u8], p: usize, a: Arc)
     room[p + 1] = halves(a.len, 0);
 }
 
-// Writes m arcs from byte 3 on.
-fn put_arcs(laid: &[u8; LAYOUT], room: &mut [u8], m: usize)
-    requires { (m ≤ 240) × AllFit (arcs_from laid.now 0 m) × (Bytes.size m ≤ length room.old) }
-    ensures { room.new ≡ sets room.old 3 (pair_bytes (arcs_from laid.now 0 m)) }
+// Writes the arcs from byte 3 on.
+fn put_arcs(net: &Network, room: &mut [u8])
+    requires { Bytes.size net.now.layout.count ≤ length room.old }
+    ensures { room.new ≡ sets room.old 3 (pair_bytes (net_of net.now.layout).arcs) }
 {
-    let mut k: usize = 0;
-    let mut p: usize = 3;
-    while k + 1 < m {
-        put_pair(room, p, arc_at(laid, k), arc_at(laid, k + 1));
-        k += 2;
-        p += 3;
+    let m = usize::from(net.layout.count);
+    for k in 0..m / 2 {
+        put_pair(room, 3 + 3 * k, arc_at(net, 2 * k), arc_at(net, 2 * k + 1));
     }
-    if k < m {
-        put_last(room, p, arc_at(laid, k));
+    if m % 2 == 1 {
+        put_last(room, 3 + 3 * (m / 2), arc_at(net, m - 1));
     }
 }
 
-// Writes the bytes of what is laid out.
-fn put_bytes(laid: &[u8; LAYOUT], room: &mut [u8])
-    requires { Laid laid.now × (Bytes.size (length (net_of laid.now).arcs) ≤ length room.old) }
-    ensures { room.new ≡ begins (net_bytes (net_of laid.now)) room.old }
+// Writes the bytes of an accepted network.
+fn put_bytes(net: &Network, room: &mut [u8])
+    requires { Bytes.size net.now.layout.count ≤ length room.old }
+    ensures { room.new ≡ begins (net_bytes (net_of net.now.layout)) room.old }
 {
-    let m = laid[network::COUNT];
-    room[0] = halves(1, laid[network::NODES] - 1);
-    room[1] = halves(laid[network::LMAX], 0);
-    room[2] = m;
-    put_arcs(laid, room, m as usize);
+    room[0] = halves(1, net.layout.nodes - 1);
+    room[1] = halves(net.layout.lmax, 0);
+    room[2] = net.layout.count;
+    put_arcs(net, room);
 }
 
 // Writes the bytes of what was found at the room's start, unless it is refused or the room is short; how many they are.
-pub fn pack(found: Found, room: &mut [u8]) -> u32
-    requires { Consistent found }
-    ensures { Packs found room.old result room.new }
+pub fn pack(found: Result<Network, Reason>, room: &mut [u8]) -> Result<u16, Reason>
+    ensures { Packs found room.old (written result) room.new }
 {
-    if found.refused != 0 {
-        return found.refused;
+    let net = found?;
+    let long = bytes_of(net.layout.count);
+    if room.len() < usize::from(long) {
+        return Err(Reason::RoomTooShort);
     }
-    let long = bytes_of(found.laid[network::COUNT]);
-    if room.len() < long {
-        return 13;
-    }
-    put_bytes(&found.laid, room);
-    256 * long as u32
+    put_bytes(&net, room);
+    Ok(long)
 }

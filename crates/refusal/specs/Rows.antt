@@ -1,9 +1,13 @@
 -- 01, "Refusal numbers": rows as data. A row has a number, a place and a test; a call has a list of rows, in 01's order, and is refused
 -- by the first that holds.
 use Rattle.std.specs.Prelude.{ℕ, zero, suc, ◌-◌, ◌≡◌, ◌⊎◌, Bool, true, false, ◌||◌, List, [], ◌∷◌, ◌++◌, ltb, eqb, if◌then◌else◌}
-use Rattle.refusal.specs.declared.Refusal.{Refusal}
 
--- a refusal (the code's `Refusal`) by its number and its place
+-- a refusal: its number, 0 for none, and the place of what is wrong, a bit of a table file, 0 where there is none
+pub record Refusal : Type 0 where
+  pub number : ℕ
+  pub place : ℕ
+
+-- one by its number and its place
 abbrev pub refusal : ℕ → ℕ → Refusal
 refusal N p = record { number = N; place = p }
 

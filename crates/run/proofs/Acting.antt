@@ -6,7 +6,7 @@ use mathlib.Core.List.{List}
 use Prim.Native.Nat.{ℕ, ◌+◌, ◌≤◌, ◌<◌}
 use native.Mathlib.Omega.{arith}
 use lib.Dec.{ltb, eqb}
-use lib.ListN.{length, get_or}
+use lib.ListN.{length}
 use borrow.Author.Tests.{lt-ltb, le-ltb, eqb-true, eqb-false, ne_eqb}
 use Rattle.method.specs.Network.{IsNode}
 use Rattle.method.specs.Message.{Msg}
@@ -17,7 +17,8 @@ use Rattle.method.specs.Invariant.{SiteOk, Spread}
 use Rattle.method.proofs.Working.{work_ok}
 use Rattle.method.proofs.Runs.{begun_site, handed_site}
 use Rattle.method.proofs.Tight.{spread}
-use Rattle.network.specs.Layout.{nodes_at, net_of, Laid}
+use Rattle.network.specs.declared.Layout.{Layout}
+use Rattle.network.specs.Layout.{net_of, Laid}
 use Rattle.run_cells.specs.Part.{Part, table_size, phase_at, sent_count, entry_count, waits_at, delivered_at, sums_at, phase_named}
 use Rattle.run_cells.specs.Part.{site_of, state_of}
 use Rattle.run_cells.specs.Stores.{Stored, raised, begun_part}
@@ -33,7 +34,7 @@ use Rattle.run_node.proofs.Least.{least_same, least_at}
 use Rattle.run.specs.Resting.{Resting, Acted}
 use Rattle.run.proofs.Rested.{put_state, table_low, i_node, ready, still}
 
-module _ (g : List ℕ) (la : Laid g) (m : ℕ → Part) (re : Resting g m) (i : ℕ) (node : IsNode (get_or g nodes_at 0) i) where
+module _ (g : Layout) (la : Laid g) (m : ℕ → Part) (re : Resting g m) (i : ℕ) (node : IsNode g.nodes i) where
   abbrev ss : ℕ → List Msg
   ss = sents (state_of m)
 
@@ -116,7 +117,7 @@ module _ (g : List ℕ) (la : Laid g) (m : ℕ → Part) (re : Resting g m) (i :
           n w)
 
   -- a delivery on the arc to h
-  module _ (h : ℕ) (head : IsNode (get_or g nodes_at 0) h) where
+  module _ (h : ℕ) (head : IsNode g.nodes h) where
     abbrev Delivers : (ℕ → Part) → Kind → Type 0
     Delivers n k = Acted g m i n k (delivering (net_of g) (state_of m) i h)
 

@@ -1,11 +1,11 @@
--- The array as `clear` leaves it: the state before the first step, at rest.
+-- The parts as `clear` leaves it: the state before the first step, at rest.
 use mathlib.Core.Path.{◌≡◌, refl, sym, ap, subst, ◌∙◌, fun_ext}
 use mathlib.Core.Bool.{Bool, true, false, cond}
 use mathlib.Core.List.{List, []}
-use Prim.Native.Nat.{ℕ, zero, suc, ◌+◌, ◌-◌, ◌*◌, ◌≤◌, ◌<◌}
+use Prim.Native.Nat.{ℕ, zero, suc, ◌+◌, ◌-◌, ◌≤◌, ◌<◌}
 use native.Mathlib.Omega.{arith}
 use lib.Dec.{ltb}
-use lib.ListN.{length, get_or, drop, get_or-eq_default}
+use lib.ListN.{drop}
 use borrow.Author.Tests.{ltb-true, ltb-false, lt-ltb, le-ltb}
 use Rattle.method.specs.Message.{Msg, finite, last_len, item, oldest}
 use Rattle.method.specs.Work.{Site}
@@ -14,10 +14,12 @@ use Rattle.method.specs.Entries.{find}
 use Rattle.method.specs.Invariant.{Inv, Spread}
 use Rattle.method.proofs.Runs.{fresh_ok}
 use Rattle.method.proofs.Tight.{spread}
+use Rattle.network.specs.declared.Layout.{Layout}
 use Rattle.network.specs.Layout.{len_at, net_of, Laid}
+use Rattle.run_cells.specs.declared.State.{State as StateInCode}
 use Rattle.run_cells.specs.Part.{Part, table_size, nodes_most, phase_at, sent_count, entry_count, lp_at, last_at, delivered_at, taken_at}
 use Rattle.run_cells.specs.Part.{sums_at}
-use Rattle.run_cells.specs.Part.{marks_at, targets_at, part_size, state_size, cells, row, sum_of, site_of, state_of, entry_marked}
+use Rattle.run_cells.specs.Part.{marks_at, targets_at, cells, row, sum_of, site_of, state_of, entry_marked}
 use Rattle.run_cells.specs.Stores.{zeroed, with_sums, cleared}
 use Rattle.run_cells.specs.Caches.{Caches}
 use Rattle.run.specs.Resting.{Resting}
@@ -26,14 +28,10 @@ nothing_old : (t : ℕ) → oldest t [] ≡ []
 unfolding oldest
 nothing_old t = let e : 0 - t ≡ 0 = omega arith in ap (λ (k : ℕ). drop k []) e
 
-beyond : (l : List ℕ) (j o : ℕ) → length l ≡ state_size → nodes_most ≤ j → cells l (suc j) o ≡ 0
-beyond l j o size le = go (ltb o part_size)
-  where
-    go : (b : Bool) → cond b (get_or l (j * part_size + o) 0) 0 ≡ 0
-    go true = get_or-eq_default l 0 (omega arith)
-    go false = refl
+nobody : (s : StateInCode) (j o : ℕ) → nodes_most ≤ j → cells s (suc j) o ≡ 0
+nobody s j o le = rw (le-ltb j nodes_most le)
 
-module _ (g : List ℕ) (l : List ℕ) (size : length l ≡ state_size) (m : ℕ → Part) (e : m ≡ cleared g (cells l) nodes_most) where
+module _ (g : Layout) (l : StateInCode) (m : ℕ → Part) (e : m ≡ cleared g (cells l) nodes_most) where
   abbrev new : ℕ → Part
   new j = with_sums g j (zeroed (cells l j) targets_at) table_size
 
@@ -57,7 +55,7 @@ module _ (g : List ℕ) (l : List ℕ) (size : length l ≡ state_size) (m : ℕ
           ap (λ (f : Part). f o) (part_is (suc j) (omega arith)) ∙ new_zero (suc j) o lt
       go false q =
           ap (λ (k : ℕ → Part). k (suc j) o) e ∙ ap (λ (b : Bool). cond b (new (suc j)) (cells l (suc j)) o) q
-          ∙ beyond l j o size (ltb-false j nodes_most q)
+          ∙ nobody l j o (ltb-false j nodes_most q)
 
   new_mark : (j y : ℕ) → y < table_size → new j (marks_at + y) ≡ 0
   new_mark j y lt = rw (

@@ -7,7 +7,7 @@ use mathlib.Core.List.{List, ◌∷◌}
 use Prim.Native.Nat.{ℕ, suc, ◌≤◌, ◌<◌}
 use native.Mathlib.Omega.{arith}
 use lib.Dec.{ltb, eqb}
-use lib.ListN.{length, get_or}
+use lib.ListN.{length}
 use borrow.Author.Tests.{eqb-true, eqb-false, eq-eqb, ne_eqb}
 use Rattle.method.specs.Network.{IsNode}
 use Rattle.method.specs.Message.{Msg, len, last_len, item, sent_after}
@@ -22,7 +22,8 @@ use Rattle.method.proofs.Always.{sources}
 use Rattle.method.proofs.Sent.{ends_le}
 use Rattle.method.proofs.Tight.{spread}
 use Rattle.method.proofs.Enough.{work_rests}
-use Rattle.network.specs.Layout.{nodes_at, net_of, Laid}
+use Rattle.network.specs.declared.Layout.{Layout}
+use Rattle.network.specs.Layout.{net_of, Laid}
 use Rattle.run_cells.specs.Part.{Part, entry_most, table_size, sent_most, sent_count, entry_count, site_of, state_of}
 use Rattle.run_cells.specs.Stores.{Stored}
 use Rattle.run_cells.specs.Caches.{Caches}
@@ -43,18 +44,18 @@ put_state m n i there s e = fun_ext (λ j. go j (eqb j i) refl)
     go j true q = ap (λ (k : ℕ). site_of (n k)) (eqb-true j i q) ∙ e
     go j false q = ap site_of (there j (eqb-false j i q))
 
-module _ (g : List ℕ) (la : Laid g) (m : ℕ → Part) (re : Resting g m) where
-  sent_fits_at : (j : ℕ) → IsNode (get_or g nodes_at 0) j → SentFits (state_of m j).node
+module _ (g : Layout) (la : Laid g) (m : ℕ → Part) (re : Resting g m) where
+  sent_fits_at : (j : ℕ) → IsNode g.nodes j → SentFits (state_of m j).node
   sent_fits_at j at = sent_fits (net_of g) la.accepted.sizes la.accepted.valid j at _ (state_of m j).node (re.inv j).site.ok
       (re.spread j)
 
-  sent_most_lem : (j : ℕ) → IsNode (get_or g nodes_at 0) j → length (sents (state_of m) j) ≤ sent_most
+  sent_most_lem : (j : ℕ) → IsNode g.nodes j → length (sents (state_of m) j) ≤ sent_most
   sent_most_lem j at = omega (arith, sent_fits_at j at, ends_le (state_of m j).node.phase)
 
-  pub sent_low : (j : ℕ) → IsNode (get_or g nodes_at 0) j → m j sent_count ≤ sent_most
+  pub sent_low : (j : ℕ) → IsNode g.nodes j → m j sent_count ≤ sent_most
   sent_low j at = omega (arith, sent_most_lem j at, sent_length (m j) (m j sent_count))
 
-  pub table_low : (j : ℕ) → IsNode (get_or g nodes_at 0) j → m j entry_count ≤ entry_most
+  pub table_low : (j : ℕ) → IsNode g.nodes j → m j entry_count ≤ entry_most
   table_low j at =
       omega (
         arith,
@@ -62,7 +63,7 @@ module _ (g : List ℕ) (la : Laid g) (m : ℕ → Part) (re : Resting g m) wher
         table_length (m j) (m j entry_count),
       )
 
-  module _ (i : ℕ) (at : IsNode (get_or g nodes_at 0) i) where
+  module _ (i : ℕ) (at : IsNode g.nodes i) where
     pub i_node : (1 ≤ i) × (i < table_size)
     i_node = omega (arith, la.accepted.sizes.nodes.1)
 

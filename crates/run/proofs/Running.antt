@@ -8,13 +8,12 @@ use lib.ListN.{length, get_or, drop}
 use lib.Seq.{drop-cons, drop-length}
 use Rattle.method.specs.Steps.{State, fresh, Step, byte_step, steps, step, run_from, run, Kind, taken, idle, unknown, Counts, counted}
 use Rattle.method.specs.Steps.{counts_from, counts}
+use Rattle.network.specs.declared.Layout.{Layout}
 use Rattle.network.specs.Layout.{net_of, Laid}
 use Rattle.run_cells.specs.Part.{Part, state_of}
 use Rattle.run.specs.Resting.{Resting, Done}
 use Rattle.run.proofs.Rested.{table_low, i_node}
-use Rattle.run.specs.declared.Kind.{Kind as CodeKind}
-use Rattle.run.specs.declared.Kind.TheVariants.{Taken, Idle, Unknown}
-use Rattle.run.specs.Ran.{kind_of, tallied, Ran}
+use Rattle.run.specs.Ran.{Ran}
 
 abbrev plus : Counts → Counts → Counts
 plus a b = record { taken = a.taken + b.taken; idle = a.idle + b.idle; unknown = a.unknown + b.unknown }
@@ -52,12 +51,12 @@ counted_le unknown a b e = (
 )
 
 -- k steps are done
-pub record SoFar (g bs : List ℕ) (k : ℕ) (m : ℕ → Part) (c : Counts) : Type 0 where
+pub record SoFar (g : Layout) (bs : List ℕ) (k : ℕ) (m : ℕ → Part) (c : Counts) : Type 0 where
   pub rest : Resting g m
   pub state : run_from (net_of g) (state_of m) (steps (drop k bs)) ≡ run (net_of g) (steps bs)
   pub counted : plus c (counts_from (net_of g) (state_of m) (steps (drop k bs))) ≡ counts (net_of g) (steps bs)
 
-pub nothing_done : (g bs : List ℕ) (m : ℕ → Part) → Resting g m → state_of m ≡ fresh → SoFar g bs 0 m none
+pub nothing_done : (g : Layout) (bs : List ℕ) (m : ℕ → Part) → Resting g m → state_of m ≡ fresh → SoFar g bs 0 m none
 unfolding run counts
 nothing_done g bs m re e =
     record {
@@ -66,7 +65,7 @@ nothing_done g bs m re e =
       counted = counts_are _ _ (omega arith) (omega arith) (omega arith) ∙ ap (λ (st : State). counts_from (net_of g) st (steps bs)) e;
     }
 
-pub one_done : (g bs : List ℕ) (k : ℕ) (m n : ℕ → Part) (c d : Counts) (r : Kind) → k < length bs → SoFar g bs k m c
+pub one_done : (g : Layout) (bs : List ℕ) (k : ℕ) (m n : ℕ → Part) (c d : Counts) (r : Kind) → k < length bs → SoFar g bs k m c
     → Done g n r (step (net_of g) (state_of m) (byte_step (get_or bs k 0))) → d ≡ counted r c → SoFar g bs (k + 1) n d
 unfolding run_from counts_from
 one_done g bs k m n c d r lt so did ed =
@@ -89,7 +88,7 @@ one_done g bs k m n c d r lt so did ed =
           ∙ so.counted;
     }
 
-pub all_done : (g bs : List ℕ) (k : ℕ) (m : ℕ → Part) (c : Counts) → Laid g → k ≡ length bs → SoFar g bs k m c → Ran g bs m c
+pub all_done : (g : Layout) (bs : List ℕ) (k : ℕ) (m : ℕ → Part) (c : Counts) → Laid g → k ≡ length bs → SoFar g bs k m c → Ran g bs m c
 unfolding run_from counts_from
 all_done g bs k m c la e so =
     let l : drop k bs ≡ [] = ap (λ (x : ℕ). drop x bs) e ∙ drop-length bs in
@@ -103,17 +102,3 @@ all_done g bs k m c la e so =
         few = table_low g la m so.rest j at;
       };
     }
-
--- the code's counts
-module _ (t i u : ℕ) (k : CodeKind) where
-  abbrev Tallies : ℕ → ℕ → ℕ → Type 0
-  Tallies t' i' u' = tallied t' i' u' ≡ counted (kind_of k) (tallied t i u)
-
-  pub tallies_taken : k ≡ Taken → Tallies (t + 1) i u
-  tallies_taken e = rw (e, add-one t)
-
-  pub tallies_idle : k ≡ Idle → Tallies t (i + 1) u
-  tallies_idle e = rw (e, add-one i)
-
-  pub tallies_unknown : k ≡ Unknown → Tallies t i (u + 1)
-  tallies_unknown e = rw (e, add-one u)

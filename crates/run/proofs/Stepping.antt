@@ -8,7 +8,7 @@ use Prim.Native.Nat.{ℕ, zero, suc, ◌+◌, ◌-◌, ◌≤◌, ◌<◌}
 use native.Mathlib.Omega.{arith}
 use native.Mathlib.Numerals.{add-one}
 use lib.Dec.{eqb}
-use lib.ListN.{length, get_or, get_elem?}
+use lib.ListN.{length, get_elem?}
 use borrow.Author.Tests.{lt-ltb, le-ltb, le-leb, lt-leb, eqb-true, eqb-false}
 use Rattle.method.specs.Network.{IsNode, IsArc}
 use Rattle.method.specs.Message.{Msg, item, oldest}
@@ -20,14 +20,15 @@ use Rattle.method.proofs.Oldest.{oldest_grow}
 use Rattle.method.proofs.Runs.{Onward, step_ok}
 use Rattle.method.proofs.Always.{step_keeps}
 use Rattle.method.proofs.Tight.{spread}
-use Rattle.network.specs.Layout.{nodes_at, count_at, len_at, arc_at, arcs_from, net_of, Laid}
+use Rattle.network.specs.declared.Layout.{Layout}
+use Rattle.network.specs.Layout.{len_at, arc_at, arcs_from, net_of, Laid}
 use Rattle.run_cells.specs.Part.{Part, table_size, sum_of, site_of, state_of}
 use Rattle.run_cells.specs.Caches.{Caches}
 use Rattle.run_node.specs.Working.{WaitsFor}
 use Rattle.run.specs.Resting.{Resting, Acted, Done}
 
 -- other nodes have sent more: what a part holds of its arcs stays
-grown_caches : (g : List ℕ) (j : ℕ) (ss ss' : ℕ → List Msg) (f : Part) → ((h : ℕ) → (e : List Msg) × (ss' h ≡ e ++ ss h))
+grown_caches : (g : Layout) (j : ℕ) (ss ss' : ℕ → List Msg) (f : Part) → ((h : ℕ) → (e : List Msg) × (ss' h ≡ e ++ ss h))
     → ((h : ℕ) → (site_of f).taken h ≤ length (ss h)) → Caches g j ss f → Caches g j ss' f
 grown_caches g j ss ss' f grows le c =
     record {
@@ -40,19 +41,19 @@ grown_caches g j ss ss' f grows le c =
     }
 
 -- an arc by its number
-arc_some : (g : List ℕ) (a k n : ℕ) → n < k → get_elem? (arcs_from g a k) n ≡ some (arc_at g (a + n))
+arc_some : (g : Layout) (a k n : ℕ) → n < k → get_elem? (arcs_from g a k) n ≡ some (arc_at g (a + n))
 arc_some g a zero n lt = absurd (omega arith)
 arc_some g a (suc k) zero lt = let e : a ≡ a + 0 = omega arith in ap (λ (x : ℕ). some (arc_at g x)) e
 arc_some g a (suc k) (suc n) lt =
     let e : suc a + n ≡ a + suc n = omega arith in
     arc_some g (suc a) k n (omega arith) ∙ ap (λ (x : ℕ). some (arc_at g x)) e
 
-arc_none : (g : List ℕ) (a k n : ℕ) → k ≤ n → get_elem? (arcs_from g a k) n ≡ none
+arc_none : (g : Layout) (a k n : ℕ) → k ≤ n → get_elem? (arcs_from g a k) n ≡ none
 arc_none g a zero n le = refl
 arc_none g a (suc k) zero le = absurd (omega arith)
 arc_none g a (suc k) (suc n) le = arc_none g (suc a) k n (omega arith)
 
-arc_in : (g : List ℕ) (a k n : ℕ) → n < k → IsArc (arcs_from g a k) (arc_at g (a + n)).tail (arc_at g (a + n)).head (arc_at g (a + n)).len
+arc_in : (g : Layout) (a k n : ℕ) → n < k → IsArc (arcs_from g a k) (arc_at g (a + n)).tail (arc_at g (a + n)).head (arc_at g (a + n)).len
 arc_in g a zero n lt = absurd (omega arith)
 arc_in g a (suc k) zero lt =
     let e : a ≡ a + 0 = omega arith in
@@ -63,35 +64,35 @@ arc_in g a (suc k) (suc n) lt =
     (arc_in g (suc a) k n (omega arith)))
 
 -- its tail and head are nodes
-pub ends_are_nodes : (g : List ℕ) → Laid g → (k : ℕ) → k < get_or g count_at 0
-    → IsNode (get_or g nodes_at 0) (arc_at g k).tail × IsNode (get_or g nodes_at 0) (arc_at g k).head
+pub ends_are_nodes : (g : Layout) → Laid g → (k : ℕ) → k < g.count
+    → IsNode g.nodes (arc_at g k).tail × IsNode g.nodes (arc_at g k).head
 ends_are_nodes g la k lt =
     let e : 0 + k ≡ k = omega arith in
     let a = subst (λ (x : ℕ). IsArc (net_of g).arcs (arc_at g x).tail (arc_at g x).head (arc_at g x).len) e
-    (arc_in g 0 (get_or g count_at 0) k lt) in
+    (arc_in g 0 g.count k lt) in
     (la.accepted.valid.tails _ _ _ a, la.accepted.valid.heads _ _ _ a)
 
 -- what a byte names
-module _ (g : List ℕ) (b : ℕ) where
-  pub names_node : b < 16 → b < get_or g nodes_at 0 → names (net_of g) (byte_step b) ≡ node (b + 1)
-  names_node l n = rw (le-leb b 15 (omega arith), add-one b, lt-ltb b (get_or g nodes_at 0) n)
+module _ (g : Layout) (b : ℕ) where
+  pub names_node : b < 16 → b < g.nodes → names (net_of g) (byte_step b) ≡ node (b + 1)
+  names_node l n = rw (le-leb b 15 (omega arith), add-one b, lt-ltb b g.nodes n)
 
-  pub names_no_node : b < 16 → get_or g nodes_at 0 ≤ b → names (net_of g) (byte_step b) ≡ nothing
-  names_no_node l n = rw (le-leb b 15 (omega arith), add-one b, le-ltb b (get_or g nodes_at 0) n)
+  pub names_no_node : b < 16 → g.nodes ≤ b → names (net_of g) (byte_step b) ≡ nothing
+  names_no_node l n = rw (le-leb b 15 (omega arith), add-one b, le-ltb b g.nodes n)
 
   delivery : 16 ≤ b → byte_step b ≡ deliver (suc (b - 16))
   delivery l = let e : b - 15 ≡ suc (b - 16) = omega arith in rw (lt-leb b 15 (omega arith), e)
 
-  pub names_arc : 16 ≤ b → b - 16 < get_or g count_at 0
+  pub names_arc : 16 ≤ b → b - 16 < g.count
       → names (net_of g) (byte_step b) ≡ arc (arc_at g (b - 16)).tail (arc_at g (b - 16)).head
   names_arc l n =
       let e : 0 + (b - 16) ≡ b - 16 = omega arith in
-      rw (delivery l, arc_some g 0 (get_or g count_at 0) (b - 16) n) (ap (λ (x : ℕ). arc (arc_at g x).tail (arc_at g x).head) e)
+      rw (delivery l, arc_some g 0 g.count (b - 16) n) (ap (λ (x : ℕ). arc (arc_at g x).tail (arc_at g x).head) e)
 
-  pub names_no_arc : 16 ≤ b → get_or g count_at 0 ≤ b - 16 → names (net_of g) (byte_step b) ≡ nothing
-  names_no_arc l n = rw (delivery l, arc_none g 0 (get_or g count_at 0) (b - 16) n)
+  pub names_no_arc : 16 ≤ b → g.count ≤ b - 16 → names (net_of g) (byte_step b) ≡ nothing
+  names_no_arc l n = rw (delivery l, arc_none g 0 g.count (b - 16) n)
 
-module _ (g : List ℕ) (la : Laid g) (m : ℕ → Part) (re : Resting g m) (b : Step) where
+module _ (g : Layout) (la : Laid g) (m : ℕ → Part) (re : Resting g m) (b : Step) where
   -- all parts are at rest after an act of node i
   pub acted_did : (o : Named) → names (net_of g) b ≡ o → (i : ℕ) (n : ℕ → Part) (k : Kind)
       → Acted g m i n k (carried_out (net_of g) (state_of m) o)

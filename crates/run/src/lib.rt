@@ -1,82 +1,90 @@
 // The run over a step list, equal to the method's: starts, deliveries, steps, counts.
 #![tactic(auto)]
 
-ghost use Rattle.std.specs.Prelude.{◌≡◌, ◌+◌, ◌-◌, ◌/◌, ◌%◌, ◌<◌, length, get_or};
+ghost use Rattle.std.specs.Prelude.{◌≡◌, ◌+◌, ◌-◌, ◌/◌, ◌%◌, ◌<◌};
 ghost use Rattle.method.specs.Network.{IsNode};
 ghost use Rattle.method.specs.Steps.{byte_step, starting, delivering, step, counted};
-ghost use Rattle.network.specs.Layout.{nodes_at, net_of, Laid};
-ghost use Rattle.run_cells.specs.Part.{delivered_at, sent_count, cells, state_size, state_of};
+ghost use Rattle.network.specs.Layout.{net_of};
+ghost use Rattle.run_cells.specs.Part.{delivered_at, sent_count, cells, state_of};
 ghost use Rattle.run.specs.Resting.{Resting, Acted, Done};
 ghost use Rattle.run.specs.Ran.{kind_of, tallied, Ran};
 
-use run_cells::*;
+use network::Network;
+use run_cells::{Phase, State, places};
 use run_node::{Chosen, work, work_from};
 
 // What a step counts as.
-#[derive(Clone, Copy)]
+#[derive(Clone, Copy, Debug, PartialEq, Eq, Hash)]
 pub enum Kind {
     Taken,
     Idle,
     Unknown,
 }
 
-// Node i is to start.
-pub fn start(net: &[u8], s: &mut [u8], i: usize) -> Kind
-    requires { Laid net.now × Resting net.now (cells s.old) × IsNode (get_or net.now nodes_at 0) i × (length s.old ≡ state_size) }
-    ensures { Acted net.now (cells s.old) i (cells s.new) (kind_of result)
-        (starting (state_of (cells s.old) i).node.phase (net_of net.now) (state_of (cells s.old)) i) }
+// A node is to start. `Resting` holds of a state and its network together, here and below: no type of the state alone can say it. The two
+// are parameters of their own: one is lent to read and one to change, and a struct of the references would be taken apart at each use.
+pub fn start(net: &Network, state: &mut State, node: u8) -> Kind
+    requires { Resting net.now.layout (cells state.old) × IsNode net.now.layout.nodes node }
+    ensures { Acted net.now.layout (cells state.old) node (cells state.new) (kind_of result)
+        (starting (state_of (cells state.old) node).node.phase (net_of net.now.layout) (state_of (cells state.old)) node) }
 {
-    if get(&*s, i, PHASE) != 0 {
-        return Kind::Idle;
+    let number = usize::from(node);
+    match state.parts[number - 1].phase {
+        Phase::Started | Phase::Stopped => Kind::Idle,
+        Phase::Unstarted => {
+            state.parts[number - 1].begin(node);
+            work(net, state, number);
+            Kind::Taken
+        }
     }
-    begin(s, i);
-    work(net, s, i);
-    Kind::Taken
 }
 
-// The arc at a site, from i to h, hands over its oldest undelivered message. A node chooses again the arc that it waits for: another,
-// and it waits still; or this one, and it works on from there.
-pub fn deliver(net: &[u8], s: &mut [u8], site: usize) -> Kind
-    requires { Laid net.now × Resting net.now (cells s.old) × IsNode (get_or net.now nodes_at 0) (site / 16 + 1)
-        × IsNode (get_or net.now nodes_at 0) (site % 16 + 1)
-        × (cells s.old (site / 16 + 1) (delivered_at + (site % 16 + 1)) < cells s.old (site % 16 + 1) sent_count)
-        × (site < 256) × (length s.old ≡ state_size) }
-    ensures { Acted net.now (cells s.old) (site / 16 + 1) (cells s.new) (kind_of result)
-        (delivering (net_of net.now) (state_of (cells s.old)) (site / 16 + 1) (site % 16 + 1)) }
+// The arc at a site hands over its head's oldest undelivered message. The tail chooses again the arc that it waits for: another, and it
+// waits still; or this one, and it works on from there.
+pub fn deliver(net: &Network, state: &mut State, site: u8) -> Kind
+    requires { Resting net.now.layout (cells state.old) × IsNode net.now.layout.nodes (site / 16 + 1)
+        × IsNode net.now.layout.nodes (site % 16 + 1)
+        × (cells state.old (site / 16 + 1) (delivered_at + (site % 16 + 1)) < cells state.old (site % 16 + 1) sent_count) }
+    ensures { Acted net.now.layout (cells state.old) (site / 16 + 1) (cells state.new) (kind_of result)
+        (delivering (net_of net.now.layout) (state_of (cells state.old)) (site / 16 + 1) (site % 16 + 1)) }
 {
-    hand_over(s, site);
-    if !waits_for(&*s, site) {
+    state.hand_over(site);
+    if !state.waits_for(site) {
         return Kind::Taken;
     }
-    let i = site / 16 + 1;
-    if get(&*s, i, PHASE) != 1 {
-        return Kind::Taken;
+    let (tail, head) = places(site);
+    match state.parts[tail].phase {
+        Phase::Unstarted | Phase::Stopped => Kind::Taken,
+        Phase::Started => {
+            let chosen = Chosen {
+                sum: state.parts[tail].sums[head + 1],
+                head: site % 16 + 1,
+            };
+            work_from(net, state, tail + 1, chosen);
+            Kind::Taken
+        }
     }
-    let h = site % 16 + 1;
-    let x = get(&*s, i, SUMS + h);
-    work_from(net, s, i, Chosen { sum: x, head: h });
-    Kind::Taken
 }
 
-// A step byte: a start or a delivery; then unknown, idle or taken.
-pub fn step(net: &[u8], s: &mut [u8], b: u8) -> Kind
-    requires { Laid net.now × Resting net.now (cells s.old) × (length s.old ≡ state_size) }
-    ensures { Done net.now (cells s.new) (kind_of result)
-        (step (net_of net.now) (state_of (cells s.old)) (byte_step b)) }
+// A step byte: a start or a delivery; then unknown, idle or taken. Decided by ranges of the byte, as document 01 has it.
+pub fn step(net: &Network, state: &mut State, byte: u8) -> Kind
+    requires { Resting net.now.layout (cells state.old) }
+    ensures { Done net.now.layout (cells state.new) (kind_of result)
+        (step (net_of net.now.layout) (state_of (cells state.old)) (byte_step byte)) }
 {
-    match b {
+    match byte {
         0..=15 => {
-            if b < net[network::NODES] {
-                return start(net, s, b as usize + 1);
+            if byte < net.layout.nodes {
+                return start(net, state, byte + 1);
             }
             Kind::Unknown
         }
         16..=255 => {
-            let k = b - 16;
-            if k < net[network::COUNT] {
-                let site = net[network::SITES + k as usize] as usize;
-                if has_more(&*s, site) {
-                    return deliver(net, s, site);
+            let arc = byte - 16;
+            if arc < net.layout.count {
+                let site = net.layout.sites[usize::from(arc)];
+                if state.has_more(site) {
+                    return deliver(net, state, site);
                 }
                 return Kind::Idle;
             }
@@ -86,53 +94,41 @@ pub fn step(net: &[u8], s: &mut [u8], b: u8) -> Kind
 }
 
 // How many steps were taken, idle, unknown.
-#[derive(Clone, Copy)]
+#[derive(Clone, Copy, Debug, PartialEq, Eq, Hash)]
 pub struct Counts {
     pub taken: usize,
     pub idle: usize,
     pub unknown: usize,
 }
 
-// One step more of its kind: so the three add up to the number of steps.
-pub fn tally(c: Counts, k: Kind) -> Counts
-    requires { (c.taken < 9223372036854775808) × (c.idle < 9223372036854775808) × (c.unknown < 9223372036854775808) }
-    ensures { tallied result.taken result.idle result.unknown ≡ counted (kind_of k) (tallied c.taken c.idle c.unknown) }
-{
-    match k {
-        Kind::Taken => Counts {
-            taken: c.taken + 1,
-            idle: c.idle,
-            unknown: c.unknown,
-        },
-        Kind::Idle => Counts {
-            taken: c.taken,
-            idle: c.idle + 1,
-            unknown: c.unknown,
-        },
-        Kind::Unknown => Counts {
-            taken: c.taken,
-            idle: c.idle,
-            unknown: c.unknown + 1,
-        },
+impl Counts {
+    // One step more of its kind: so the three add up to the number of steps.
+    pub fn count(&mut self, kind: Kind)
+        requires { (self.old.taken < 9223372036854775808) × (self.old.idle < 9223372036854775808)
+            × (self.old.unknown < 9223372036854775808) }
+        ensures { tallied self.new.taken self.new.idle self.new.unknown
+            ≡ counted (kind_of kind) (tallied self.old.taken self.old.idle self.old.unknown) }
+    {
+        match kind {
+            Kind::Taken => self.taken += 1,
+            Kind::Idle => self.idle += 1,
+            Kind::Unknown => self.unknown += 1,
+        }
     }
 }
 
 // The run over the whole step list, from the beginning.
-pub fn run(net: &[u8], s: &mut [u8], steps: &[u8]) -> Counts
-    requires { Laid net.now × (length s.old ≡ state_size) }
-    ensures { Ran net.now steps.now (cells s.new) (tallied result.taken result.idle result.unknown) }
+pub fn run(net: &Network, state: &mut State, steps: &[u8]) -> Counts
+    ensures { Ran net.now.layout steps.now (cells state.new) (tallied result.taken result.idle result.unknown) }
 {
-    clear(net, s);
-    let mut c = Counts {
+    state.clear(net);
+    let mut counts = Counts {
         taken: 0,
         idle: 0,
         unknown: 0,
     };
-    let mut k: usize = 0;
-    while k < steps.len() {
-        let r = step(net, s, steps[k]);
-        c = tally(c, r);
-        k += 1;
+    for byte in steps {
+        counts.count(step(net, state, *byte));
     }
-    c
+    counts
 }

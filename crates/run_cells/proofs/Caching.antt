@@ -18,6 +18,7 @@ use Rattle.method.proofs.Sent.{send_len_last}
 use Rattle.method.proofs.View.{with}
 use Rattle.method.proofs.Oldest.{heard_took}
 use Rattle.network.specs.Layout.{len_at}
+use Rattle.network.specs.declared.Layout.{Layout}
 use Rattle.run_cells.specs.Part.{Part, entry_most, table_size, label_most, phase_at, sent_count, entry_count, lp_at, last_at, waits_at}
 use Rattle.run_cells.specs.Part.{delivered_at, taken_at, sums_at, marks_at, targets_at, distances_at, hops_at, messages_at, msg_of}
 use Rattle.run_cells.specs.Part.{entry_at}
@@ -62,14 +63,14 @@ module _ (f f' : Part) (quiet : Quiet marks_at f f') (few : f entry_count ≤ en
       (omega (arith, a.0, quiet.count), ap (find y) tables ∙ a.1 ∙ sym (ap (entry_marked f') e ∙ m))
 
 -- sums go by what stands in their places and by what was taken
-sums_same : (g : List ℕ) (i : ℕ) (ss : ℕ → List Msg) (f f' : Part) → ((q : ℕ) → taken_at ≤ q → q < marks_at → f' q ≡ f q) → Sums g i ss f
+sums_same : (g : Layout) (i : ℕ) (ss : ℕ → List Msg) (f f' : Part) → ((q : ℕ) → taken_at ≤ q → q < marks_at → f' q ≡ f q) → Sums g i ss f
     → Sums g i ss f'
 sums_same g i ss f f' same c h lt =
     same (sums_at + h) (omega arith) (omega arith) ∙ c h lt
     ∙ ap (λ (t : ℕ). sum_of (len_at g i h) (item (oldest t (ss h))))
     (row_at f taken_at h lt ∙ sym (row_at f' taken_at h lt ∙ same (taken_at + h) (omega arith) (omega arith)))
 
-module _ (g : List ℕ) (i : ℕ) (ss : ℕ → List Msg) where
+module _ (g : Layout) (i : ℕ) (ss : ℕ → List Msg) where
   quiet_caches : (f f' : Part) → Quiet taken_at f f' → f entry_count ≤ entry_most → Caches g i ss f → Last f' → Caches g i ss f'
   quiet_caches f f' quiet few c last =
       record {

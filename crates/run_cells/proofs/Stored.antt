@@ -1,76 +1,116 @@
--- A store in the list is a store in a part, and stores one after another are the twins of specs/Stores.
-use mathlib.Core.Path.{◌≡◌, refl, sym, ap, subst, ◌∙◌, fun_ext}
+-- A part that changes among all parts, stores one after another, and the stores of the code as those of specs/Stores.
+use mathlib.Core.Path.{◌≡◌, refl, sym, ap, subst, ◌∙◌}
 use mathlib.Core.Logic.{◌≢◌}
 use mathlib.Core.Bool.{Bool, true, false, cond}
-use mathlib.Core.List.{List}
-use Prim.Native.Nat.{ℕ, zero, suc, ◌+◌, ◌-◌, ◌*◌, ◌≤◌, ◌<◌}
+use mathlib.Core.List.{List, [], ◌∷◌}
+use Prim.Native.Nat.{ℕ, zero, suc, ◌+◌, ◌-◌, ◌≤◌, ◌<◌}
 use native.Mathlib.Numerals.{add-one}
 use native.Mathlib.Omega.{arith}
-use lib.Dec.{ltb, eqb}
+use lib.Dec.{ltb, leb, eqb}
 use lib.ListN.{length, get_or, set}
-use lib.Seq.{get_or-set_same, get_or-set_other}
-use borrow.Author.Tests.{ltb-true, ltb-false, eqb-true, eqb-false, lt-ltb, eq-eqb, ne_eqb}
-use Rattle.run_cells.specs.Part.{Part, table_size, label_most, nodes_most, phase_at, sent_count, entry_count, lp_at, last_at, waits_at}
-use Rattle.run_cells.specs.Part.{marks_at}
-use Rattle.run_cells.specs.Part.{targets_at, distances_at, hops_at, messages_at, part_size, state_size, cells}
-use Rattle.run_cells.specs.Stores.{upd, Stored, raised, pushed, length_sent, waited, noted, filled, stopped_part, begun_part}
+use borrow.Author.Tests.{eqb-true, eqb-false, eq-eqb, ne_eqb, lt-ltb, le-leb, lt-leb, leb-false}
+use Rattle.std.specs.Prelude.{Some, None}
+use Rattle.run_cells.specs.declared.Phase.TheVariants.{Unstarted}
+use Rattle.run_cells.specs.declared.Part.{Part as PartInCode}
+use Rattle.run_cells.specs.declared.State.{State as StateInCode}
+use Rattle.run_cells.specs.Part.{Part, nodes_most, label_most, table_size, sent_count, last_at, waits_at, delivered_at, taken_at}
+use Rattle.run_cells.specs.Part.{messages_at, numbers, parts_from, cells}
+use Rattle.run_cells.specs.Stores.{upd, Stored, raised, pushed, length_sent, waited, waiting, took}
+use Rattle.run_cells.proofs.Loads.{sent_is, waits_is, delivered_is, message_is}
 
--- a load
-pub cell_is : (l : List ℕ) (i o : ℕ) → 1 ≤ i → o < part_size → get_or l ((i - 1) * part_size + o) 0 ≡ cells l i o
-cell_is l zero o pos lt = absurd (omega arith)
-cell_is l (suc i) o pos lt =
-    let e : suc i - 1 ≡ i = omega arith in
-    ap (λ (k : ℕ). get_or l (k * part_size + o) 0) e
-    ∙ sym (ap (λ (b : Bool). cond b (get_or l (i * part_size + o) 0) 0) (lt-ltb o part_size lt))
+-- what the code's terms have where there is no part
+abbrev pub blank : PartInCode
+blank =
+    record {
+      phase = Unstarted;
+      sent = 0;
+      filled = 0;
+      lp = 0;
+      last = 0;
+      waits = 0;
+      delivered = [];
+      taken = [];
+      sums = [];
+      marks = [];
+      entries = [];
+      messages = [];
+    }
 
--- of the node after i
-pub next_cell : (l : List ℕ) (i o : ℕ) → o < part_size → get_or l (i * part_size + o) 0 ≡ cells l (i + 1) o
-next_cell l i o lt =
-    let e : i + 1 - 1 ≡ i = omega arith in
-    ap (λ (k : ℕ). get_or l (k * part_size + o) 0) (sym e) ∙ cell_is l (i + 1) o (omega arith) lt
+-- a part of all
+part_at : (ps : List PartInCode) (k : ℕ) (d : PartInCode) → k < length ps → parts_from ps k ≡ numbers (get_or ps k d)
+part_at [] k d lt = absurd (omega arith)
+part_at (p ∷ ps) zero d lt = refl
+part_at (p ∷ ps) (suc k) d lt = part_at ps k d (omega arith)
 
--- a store
-module _ (l : List ℕ) (i o v : ℕ) (size : length l ≡ state_size) (node : i < nodes_most) (place : o < part_size) where
-  abbrev after : List ℕ
-  after = set l (i * part_size + o) v
+-- there is such a place
+abbrev pub Within : StateInCode → ℕ → Type 0
+Within s k = (k < length s.parts) × (k < nodes_most)
 
-  at_own : (q : ℕ) (a : Bool) → ltb q part_size ≡ a → (b : Bool) → eqb q o ≡ b
-      → cond a (get_or after (i * part_size + q) 0) 0 ≡ cond b v (cond a (get_or l (i * part_size + q) 0) 0)
-  at_own q true ea true eb =
-      let e : q ≡ o = eqb-true q o eb in
-      let lt : i * part_size + o < length l = omega arith in
-      ap (λ (k : ℕ). get_or after (i * part_size + k) 0) e ∙ get_or-set_same l (i * part_size + o) v 0 lt
-  at_own q true ea false eb =
-      let ne : q ≢ o = eqb-false q o eb in
-      get_or-set_other l (i * part_size + o) (i * part_size + q) v 0 (omega arith)
-  at_own q false ea true eb = absurd (omega (arith, ltb-false q part_size ea, eqb-true q o eb))
-  at_own q false ea false eb = refl
+pub next_part : (s : StateInCode) (k : ℕ) (d : PartInCode) → Within s k → cells s (k + 1) ≡ numbers (get_or s.parts k d)
+next_part s k d lt =
+    ap (cells s) (add-one k) ∙ ap (λ (b : Bool). cond b (parts_from s.parts k) (λ o. 0)) (lt-ltb k nodes_most lt.1)
+    ∙ part_at s.parts k d lt.0
 
-  at_other : (j : ℕ) → j ≢ i → (q : ℕ) (a : Bool) → ltb q part_size ≡ a
-      → cond a (get_or after (j * part_size + q) 0) 0 ≡ cond a (get_or l (j * part_size + q) 0) 0
-  at_other j ne q true ea = let lt = ltb-true q part_size ea in get_or-set_other l (i * part_size + o) (j * part_size + q) v 0 (omega arith)
-  at_other j ne q false ea = refl
+-- there is a place for node i
+abbrev pub Placed : StateInCode → ℕ → Type 0
+Placed s i = (i ≤ length s.parts) × (i ≤ nodes_most)
 
-  off : (j : ℕ) → j ≢ suc i → cells after j ≡ cells l j
-  off zero ne = refl
-  off (suc j) ne = fun_ext (λ q. at_other j (λ e. ne (ap suc e)) q (ltb q part_size) refl)
+pub own_part : (s : StateInCode) (i : ℕ) (d : PartInCode) → 1 ≤ i → Placed s i → cells s i ≡ numbers (get_or s.parts (i - 1) d)
+own_part s i d pos le = let e : i ≡ i - 1 + 1 = omega arith in ap (cells s) e ∙ next_part s (i - 1) d (omega (arith, le))
 
-  stored : Stored (cells l) (suc i) (upd (cells l (suc i)) o v) (cells after)
-  stored = record { here = fun_ext (λ q. at_own q (ltb q part_size) refl (eqb q o) refl); there = off }
+-- a part changed
+changed : (ps : List PartInCode) (k : ℕ) (p : PartInCode) → k < length ps → parts_from (set ps k p) k ≡ numbers p
+changed [] k p lt = absurd (omega arith)
+changed (q ∷ ps) zero p lt = refl
+changed (q ∷ ps) (suc k) p lt = changed ps k p (omega arith)
 
-pub store : (l : List ℕ) (i o v : ℕ) → length l ≡ state_size → 1 ≤ i → i < table_size → o < part_size
-    → Stored (cells l) i (upd (cells l i) o v) (cells (set l ((i - 1) * part_size + o) v))
-store l zero o v size pos node place = absurd (omega arith)
-store l (suc i) o v size pos node place =
-    let e : suc i - 1 ≡ i = omega arith in
-    subst (λ (k : ℕ). Stored (cells l) (suc i) (upd (cells l (suc i)) o v) (cells (set l (k * part_size + o) v))) (sym e)
-    (stored l i o v size (omega arith) place)
+unchanged : (ps : List PartInCode) (k j : ℕ) (p : PartInCode) → j ≢ k → parts_from (set ps k p) j ≡ parts_from ps j
+unchanged [] k j p ne = refl
+unchanged (q ∷ ps) zero zero p ne = absurd (ne refl)
+unchanged (q ∷ ps) zero (suc j) p ne = refl
+unchanged (q ∷ ps) (suc k) zero p ne = refl
+unchanged (q ∷ ps) (suc k) (suc j) p ne = unchanged ps k j p (λ e. ne (ap suc e))
 
-pub next_store : (l : List ℕ) (i o v : ℕ) → length l ≡ state_size → i < nodes_most → o < part_size
-    → Stored (cells l) (i + 1) (upd (cells l (i + 1)) o v) (cells (set l (i * part_size + o) v))
-next_store l i o v size node place =
-    subst (λ (k : ℕ). Stored (cells l) k (upd (cells l k) o v) (cells (set l (i * part_size + o) v))) (sym (add-one i))
-    (stored l i o v size node place)
+pub store_next : (s : StateInCode) (k : ℕ) (p : PartInCode) → Within s k
+    → Stored (cells s) (k + 1) (numbers p) (cells (record { parts = set s.parts k p }))
+store_next s k p lt =
+    record {
+      here =
+          ap (cells (record { parts = set s.parts k p })) (add-one k)
+          ∙ ap (λ (b : Bool). cond b (parts_from (set s.parts k p) k) (λ o. 0)) (lt-ltb k nodes_most lt.1) ∙ changed s.parts k p lt.0;
+      there = other;
+    }
+  where
+    other : (j : ℕ) → j ≢ k + 1 → cells (record { parts = set s.parts k p }) j ≡ cells s j
+    other zero ne = refl
+    other (suc j) ne =
+        ap (λ (f : Part). cond (ltb j nodes_most) f (λ o. 0)) (unchanged s.parts k j p (λ e. ne (omega arith)))
+
+pub store_own : (s : StateInCode) (i : ℕ) (p : PartInCode) → 1 ≤ i → Placed s i
+    → Stored (cells s) i (numbers p) (cells (record { parts = set s.parts (i - 1) p }))
+store_own s i p pos le =
+    let e : i - 1 + 1 ≡ i = omega arith in
+    subst (λ (j : ℕ). Stored (cells s) j (numbers p) (cells (record { parts = set s.parts (i - 1) p }))) e
+    (store_next s (i - 1) p (omega (arith, le)))
+
+-- a number of a part
+module _ (s : StateInCode) (k : ℕ) (lt : Within s k) where
+  abbrev pub part : PartInCode
+  part = get_or s.parts k blank
+
+  pub next_delivered : (h : ℕ) → h < table_size → cells s (k + 1) (delivered_at + h) ≡ get_or part.delivered h 0
+  next_delivered h l = ap (λ (f : Part). f (delivered_at + h)) (next_part s k blank lt) ∙ delivered_is part h l
+
+  pub next_sent : cells s (k + 1) sent_count ≡ part.sent
+  next_sent = ap (λ (f : Part). f sent_count) (next_part s k blank lt) ∙ sent_is part
+
+  pub next_waits : cells s (k + 1) waits_at ≡ part.waits
+  next_waits = ap (λ (f : Part). f waits_at) (next_part s k blank lt) ∙ waits_is part
+
+pub own_message : (s : StateInCode) (i t : ℕ) → 1 ≤ i → Placed s i
+    → cells s i (messages_at + t) ≡ get_or (get_or s.parts (i - 1) blank).messages t 0
+own_message s i t pos le =
+    ap (λ (f : Part). f (messages_at + t)) (own_part s i blank pos le) ∙ message_is (get_or s.parts (i - 1) blank) t
 
 -- nothing stored, and one store after another
 pub kept : (m : ℕ → Part) (i : ℕ) → Stored m i (m i) m
@@ -86,64 +126,14 @@ named q e = record { here = e.here ∙ q; there = e.there }
 pub at : {m n : ℕ → Part} {i : ℕ} {f : Part} → Stored m i f n → (o : ℕ) → n i o ≡ f o
 at e o = ap (λ (f : Part). f o) e.here
 
--- the twins
-module _ {m : ℕ → Part} {i : ℕ} where
-  pub count_law : {r : ℕ → Part} (o k : ℕ) → k ≡ m i o → Stored m i (upd (m i) o (k + 1)) r → Stored m i (raised (m i) o) r
-  unfolding raised
-  count_law o k q e = named (ap (λ (x : ℕ). upd (m i) o (x + 1)) q) e
+-- a length is sent, or was the last already
+pub send_law : (f : Part) (x k : ℕ) → f last_at ≡ k → k ≢ x → upd (pushed f (label_most + (x - k))) last_at x ≡ length_sent f x
+unfolding length_sent
+send_law f x k e ne = rw (e, ne_eqb k x ne)
 
-  pub push_law : {n r : ℕ → Part} (w k : ℕ) → k ≡ m i sent_count → Stored m i (upd (m i) (messages_at + k) w) n
-      → Stored n i (upd (n i) sent_count (k + 1)) r
-      → Stored m i (pushed (m i) w) r
-  unfolding pushed
-  push_law w k q e d = named (ap (λ (x : ℕ). upd (upd (m i) (messages_at + x) w) sent_count (x + 1)) q)
-      (then (λ g. upd g sent_count (k + 1)) e d)
-
-  pub send_law : {n r : ℕ → Part} (x k : ℕ) → k ≡ m i last_at → k ≢ x → Stored m i (pushed (m i) (label_most + (x - k))) n
-      → Stored n i (upd (n i) last_at x) r
-      → Stored m i (length_sent (m i) x) r
-  unfolding length_sent
-  send_law x k q ne e d =
-      named (rw (ne_eqb (m i last_at) x (λ w. ne (q ∙ w))) (ap (λ (z : ℕ). upd (pushed (m i) (label_most + (x - z))) last_at x) q))
-      (then (λ g. upd g last_at x) e d)
-
-  pub unsent_law : (x k : ℕ) → k ≡ m i last_at → k ≡ x → Stored m i (length_sent (m i) x) m
-  unfolding length_sent
-  unsent_law x k q e = named (rw (eq-eqb (m i last_at) x (sym q ∙ e))) (kept m i)
-
-  pub wait_law : {n r : ℕ → Part} (x h : ℕ) → Stored m i (length_sent (m i) x) n → Stored n i (upd (n i) waits_at h) r
-      → Stored m i (waited (m i) x h) r
-  unfolding waited
-  wait_law x h e d = then (λ g. upd g waits_at h) e d
-
-  pub note_law : {m₁ m₂ m₃ m₄ m₅ r : ℕ → Part} (y x h k : ℕ) → k ≡ m i entry_count
-      → Stored m i (upd (m i) (targets_at + k) y) m₁ → Stored m₁ i (upd (m₁ i) (distances_at + k) x) m₂
-      → Stored m₂ i (upd (m₂ i) (hops_at + k) h) m₃
-      → Stored m₃ i (upd (m₃ i) (marks_at + y) (k + 1)) m₄ → Stored m₄ i (upd (m₄ i) entry_count (k + 1)) m₅
-      → Stored m₅ i (upd (m₅ i) lp_at x) r
-      → Stored m i (noted (m i) y x h) r
-  unfolding noted
-  note_law y x h k q e₁ e₂ e₃ e₄ e₅ e₆ =
-      named (ap (λ (z : ℕ). upd
-      (upd (upd (upd (upd (upd (m i) (targets_at + z) y) (distances_at + z) x) (hops_at + z) h) (marks_at + y) (z + 1)) entry_count
-      (z + 1)) lp_at x) q)
-      (then (λ g. upd g lp_at x) (then (λ g. upd g entry_count (k + 1)) (then (λ g. upd g (marks_at + y) (k + 1))
-      (then (λ g. upd g (hops_at + k) h) (then (λ g. upd g (distances_at + k) x) e₁ e₂) e₃) e₄) e₅) e₆)
-
-  pub fill_law : {m₁ m₂ r : ℕ → Part} (h x y : ℕ) → Stored m i (length_sent (m i) x) m₁ → Stored m₁ i (pushed (m₁ i) y) m₂
-      → Stored m₂ i (noted (m₂ i) y x h) r → Stored m i (filled (m i) h x y) r
-  unfolding filled
-  fill_law h x y e₁ e₂ e₃ = then (λ g. noted g y x h) (then (λ g. pushed g y) e₁ e₂) e₃
-
-  pub stop_law : {n r : ℕ → Part} → Stored m i (pushed (m i) 0) n → Stored n i (upd (n i) phase_at 2) r → Stored m i (stopped_part (m i)) r
-  unfolding stopped_part
-  stop_law e d = then (λ g. upd g phase_at 2) e d
-
-  pub begin_law : {m₁ m₂ r : ℕ → Part} → Stored m i (pushed (m i) i) m₁ → Stored m₁ i (noted (m₁ i) i 0 0) m₂
-      → Stored m₂ i (upd (m₂ i) phase_at 1) r
-      → Stored m i (begun_part (m i) i) r
-  unfolding begun_part
-  begin_law e₁ e₂ e₃ = then (λ g. upd g phase_at 1) (then (λ g. noted g i 0 0) e₁ e₂) e₃
+pub unsent_law : (f : Part) (x k : ℕ) → f last_at ≡ k → k ≡ x → f ≡ length_sent f x
+unfolding length_sent
+unsent_law f x k q e = rw (eq-eqb (f last_at) x (q ∙ e))
 
 -- what sending leaves as it was
 pub pushed_else : (f : Part) (w o : ℕ) → o < messages_at → o ≢ sent_count → pushed f w o ≡ f o
@@ -173,3 +163,44 @@ waited_else f x h o lt n1 n4 n5 = rw (ne_eqb o waits_at n5) (sent_else f x o lt 
 pub waited_head : (f : Part) (x h : ℕ) → waited f x h waits_at ≡ h
 unfolding waited
 waited_head f x h = refl
+
+-- a message is taken, or there is none
+module _ (f : Part) (h : ℕ) where
+  pub none_waits : f (delivered_at + h) ≤ f (taken_at + h) → (took f h ≡ f) × (waiting f h ≡ None)
+  none_waits le = (
+    rw (le-leb (f (delivered_at + h)) (f (taken_at + h)) le),
+    rw (le-leb (f (delivered_at + h)) (f (taken_at + h)) le),
+  )
+
+  pub one_waits : f (taken_at + h) < f (delivered_at + h)
+      → (took f h ≡ raised f (taken_at + h)) × (waiting f h ≡ Some (f (taken_at + h)))
+  one_waits lt = (
+    rw (lt-leb (f (delivered_at + h)) (f (taken_at + h)) lt),
+    rw (lt-leb (f (delivered_at + h)) (f (taken_at + h)) lt),
+  )
+
+  pub waits_at_place : (t : ℕ) → Some t ≡ waiting f h → (t ≡ f (taken_at + h)) × (f (taken_at + h) < f (delivered_at + h))
+  waits_at_place t e = go (leb (f (delivered_at + h)) (f (taken_at + h))) refl e
+    where
+      go : (b : Bool) → leb (f (delivered_at + h)) (f (taken_at + h)) ≡ b → Some t ≡ cond b None (Some (f (taken_at + h)))
+          → (t ≡ f (taken_at + h)) × (f (taken_at + h) < f (delivered_at + h))
+      go true q z = cc
+      go false q z = (cc, leb-false (f (delivered_at + h)) (f (taken_at + h)) q)
+
+  pub taking_keeps : (o : ℕ) → o ≢ taken_at + h → took f h o ≡ f o
+  unfolding raised
+  taking_keeps o ne = go (leb (f (delivered_at + h)) (f (taken_at + h)))
+    where
+      go : (b : Bool) → cond b f (raised f (taken_at + h)) o ≡ f o
+      go true = refl
+      go false = rw (ne_eqb o (taken_at + h) ne)
+
+-- so every other number stays
+pub taking_reads : {m n : ℕ → Part} {i : ℕ} (h j o : ℕ) → Stored m i (took (m i) h) n → o ≢ taken_at + h → n j o ≡ m j o
+taking_reads {m} {n} {i} h j o st ne = go (eqb j i) refl
+  where
+    go : (b : Bool) → eqb j i ≡ b → n j o ≡ m j o
+    go true e =
+        let q : j ≡ i = eqb-true j i e in
+        ap (λ (k : ℕ). n k o) q ∙ at st o ∙ taking_keeps (m i) h o ne ∙ ap (λ (k : ℕ). m k o) (sym q)
+    go false e = ap (λ (f : Part). f o) (st.there j (eqb-false j i e))

@@ -1,10 +1,15 @@
--- How a run's state lies in one list of bytes: 16 parts, one for each node from 1 on; and the site that a part means.
+-- A run's state as numbers: 16 parts, one for each node from 1 on, and the numbers of a part by place; and the site that a part means.
 use Rattle.std.proofs.Math.Option.{Option, none, some}
-use Rattle.std.specs.Prelude.{List, [], ◌∷◌, ℕ, zero, suc, ◌+◌, ◌*◌, ◌-◌, ltb, leb, eqb, get_or, if◌then◌else◌}
+use Rattle.std.specs.Prelude.{List, [], ◌∷◌, ℕ, zero, suc, ◌+◌, ◌*◌, ◌-◌, ltb, leb, eqb, get_or, map, if◌then◌else◌}
 use Rattle.method.specs.Message.{Msg, label, len, end, last_len, Item, finite, infinite}
 use Rattle.method.specs.Rules.{Filled, Phase, unstarted, started, stopped, Node}
 use Rattle.method.specs.Work.{Site}
 use Rattle.method.specs.Steps.{State}
+use Rattle.method.specs.declared.Filled.{Filled as FilledInCode}
+use Rattle.run_cells.specs.declared.Phase.{Phase as PhaseInCode}
+use Rattle.run_cells.specs.declared.Phase.TheVariants.{Unstarted, Started, Stopped}
+use Rattle.run_cells.specs.declared.Part.{Part as PartInCode}
+use Rattle.run_cells.specs.declared.State.{State as StateInCode}
 
 -- 01's sizes: nodes, and LMAX, which is how far a length rises at most
 abbrev pub nodes_most : ℕ
@@ -74,16 +79,51 @@ messages_at = hops_at + entry_most
 abbrev pub part_size : ℕ
 part_size = messages_at + sent_most
 
-abbrev pub state_size : ℕ
-state_size = nodes_most * part_size
-
 -- a part's numbers by place
 abbrev pub Part : Type 0
 Part = ℕ → ℕ
 
-abbrev pub cells : List ℕ → ℕ → Part
-cells l zero o = 0
-cells l (suc i) o = if ltb o part_size then get_or l (i * part_size + o) 0 else 0
+-- from place b on the numbers of a list, before it those that were
+abbrev pub block : ℕ → List ℕ → Part → Part
+block b xs f q = if leb b q then get_or xs (q - b) 0 else f q
+
+abbrev pub phase_number : PhaseInCode → ℕ
+phase_number Unstarted = 0
+phase_number Started = 1
+phase_number Stopped = 2
+
+abbrev pub targets_of : List FilledInCode → List ℕ
+targets_of es = map (λ e. e.target) es
+
+abbrev pub distances_of : List FilledInCode → List ℕ
+distances_of es = map (λ e. e.distance) es
+
+abbrev pub hops_of : List FilledInCode → List ℕ
+hops_of es = map (λ e. e.hop) es
+
+-- the numbers of the code's part: those that stand alone, by head or target, by entry, and the messages
+abbrev pub alone : PartInCode → Part
+alone p = block 0 (phase_number p.phase ∷ p.sent ∷ p.filled ∷ p.lp ∷ p.last ∷ p.waits ∷ []) (λ q. 0)
+
+abbrev pub with_tables : List ℕ → List ℕ → List ℕ → List ℕ → Part → Part
+with_tables ds ts ss ms f = block marks_at ms (block sums_at ss (block taken_at ts (block delivered_at ds f)))
+
+abbrev pub with_lists : List FilledInCode → List ℕ → Part → Part
+with_lists es ws f =
+    block messages_at ws (block hops_at (hops_of es) (block distances_at (distances_of es) (block targets_at (targets_of es) f)))
+
+unfoldable pub numbers : PartInCode → Part
+numbers p = with_lists p.entries p.messages (with_tables p.delivered p.taken p.sums p.marks (alone p))
+
+-- the parts of all nodes; there is no node 0, and none beyond 16
+abbrev pub parts_from : List PartInCode → ℕ → Part
+parts_from [] j = λ o. 0
+parts_from (p ∷ ps) zero = numbers p
+parts_from (p ∷ ps) (suc j) = parts_from ps j
+
+abbrev pub cells : StateInCode → ℕ → Part
+cells s zero = λ o. 0
+cells s (suc i) = if ltb i nodes_most then parts_from s.parts i else (λ o. 0)
 
 -- a message after those of s as a code: 0 the end, 1 to 16 a label, from 17 a length, by how much it is more than the last of s
 abbrev pub msg_of : List Msg → ℕ → Msg

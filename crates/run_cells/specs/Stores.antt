@@ -1,9 +1,10 @@
 -- What the code's stores make of a part.
-use Rattle.std.specs.Prelude.{◌≡◌, ◌≢◌, List, ℕ, zero, suc, ◌+◌, ◌-◌, ◌≤◌, ltb, eqb, if◌then◌else◌}
+use Rattle.std.specs.Prelude.{◌≡◌, ◌≢◌, ℕ, zero, suc, ◌+◌, ◌-◌, ◌≤◌, ltb, leb, eqb, Option, Some, None, if◌then◌else◌}
 use Rattle.method.specs.Message.{finite}
 use Rattle.network.specs.Layout.{len_at}
+use Rattle.network.specs.declared.Layout.{Layout}
 use Rattle.run_cells.specs.Part.{Part, phase_at, sent_count, entry_count, lp_at, last_at, waits_at, sums_at, marks_at, targets_at}
-use Rattle.run_cells.specs.Part.{distances_at}
+use Rattle.run_cells.specs.Part.{delivered_at, taken_at, distances_at}
 use Rattle.run_cells.specs.Part.{hops_at, messages_at, table_size, label_most, rise_most, no_sum, sum_of}
 
 -- a number stored in a part
@@ -60,14 +61,30 @@ unfoldable pub begun_part : Part → ℕ → Part
 unfolding pushed noted
 begun_part f i = upd (noted (pushed f i) i 0 0) phase_at 1
 
+-- the place of the oldest message that the arc to h has delivered and the node has not taken
+abbrev pub waiting : Part → ℕ → Option ℕ
+waiting f h = if leb (f (delivered_at + h)) (f (taken_at + h)) then None else Some (f (taken_at + h))
+
+-- the message at a place, and node i's next message on the arc to h
+abbrev pub placed : Part → Option ℕ → Option ℕ
+placed f None = None
+placed f (Some t) = Some (f (messages_at + t))
+
+abbrev pub arrived : (ℕ → Part) → ℕ → ℕ → Option ℕ
+arrived m i h = placed (m h) (waiting (m i) h)
+
+-- it is taken, where there is one
+abbrev pub took : Part → ℕ → Part
+took f h = if leb (f (delivered_at + h)) (f (taken_at + h)) then f else raised f (taken_at + h)
+
 -- the first k numbers cleared; the first k sums as they are before the first step
 abbrev pub zeroed : Part → ℕ → Part
 zeroed f k q = if ltb q k then 0 else f q
 
-abbrev pub with_sums : List ℕ → ℕ → Part → ℕ → Part
+abbrev pub with_sums : Layout → ℕ → Part → ℕ → Part
 with_sums g i f k q = if ltb q sums_at then f q else if ltb q (sums_at + k) then sum_of (len_at g i (q - sums_at)) (finite 0) else f q
 
 -- the parts of the nodes 1 to k as they are before the first step
-abbrev pub cleared : List ℕ → (ℕ → Part) → ℕ → ℕ → Part
+abbrev pub cleared : Layout → (ℕ → Part) → ℕ → ℕ → Part
 cleared g m k zero = m zero
 cleared g m k (suc j) = if ltb j k then with_sums g (suc j) (zeroed (m (suc j)) targets_at) table_size else m (suc j)

@@ -1,241 +1,194 @@
-// A run's state as one lent array of bytes, a part for each node: loads, and the stores that the rules ask for.
+// A run's state, a part for each node, and the stores that the rules ask for. A store touches one node's part alone.
 #![tactic(auto)]
 
-ghost use Rattle.std.specs.Prelude.{◌≡◌, ◌+◌, ◌/◌, ◌%◌, ◌≤◌, ◌<◌, ltb, eqb, length};
-ghost use Rattle.network.specs.Layout.{layout_size, len_at};
-ghost use Rattle.run_cells.specs.Part.{sent_most, part_size, state_size, waits_at, delivered_at, sent_count, entry_count, targets_at};
-ghost use Rattle.run_cells.specs.Part.{cells};
-ghost use Rattle.run_cells.specs.Stores.{upd, Rises, Stored, raised, pushed, length_sent, waited, noted, filled, stopped_part};
-ghost use Rattle.run_cells.specs.Stores.{begun_part, zeroed};
-ghost use Rattle.run_cells.specs.Stores.{with_sums, cleared};
+ghost use Rattle.std.specs.Prelude.{◌≡◌, ◌+◌, ◌/◌, ◌%◌, ◌≤◌, ◌<◌};
+ghost use Rattle.run_cells.specs.Part.{sent_most, entry_most, table_size, delivered_at, targets_at, numbers};
+ghost use Rattle.run_cells.specs.Stores.{Rises, raised, pushed, length_sent, waited, noted, filled, stopped_part};
+ghost use Rattle.run_cells.specs.Stores.{begun_part, waiting, took, zeroed, with_sums};
 
-// 01's sizes: nodes, and LMAX.
+mod together;
+
+use method::Filled;
+use network::Network;
+
+// 01's most nodes; places of a table by head or target, 0 to 16; messages sent at most (law l, with 01's most LMAX).
 pub const NODES_MOST: usize = 16;
 
-pub const LMAX_MOST: usize = 15;
+const TABLE: usize = NODES_MOST + 1;
 
-// Places of a table by head or target, 0 to 16; entries; messages sent at most (law l).
-pub const TABLE: usize = NODES_MOST + 1;
+const SENT_MOST: usize = (NODES_MOST - 1) * 15 + NODES_MOST + 2;
 
-pub const FILLED: usize = NODES_MOST;
-
-pub const SENT_MOST: usize = (NODES_MOST - 1) * LMAX_MOST + NODES_MOST + 2;
-
-// The places in a part.
-pub const PHASE: usize = 0;
-
-pub const SENT: usize = PHASE + 1;
-
-pub const ENTRIES: usize = SENT + 1;
-
-pub const LP: usize = ENTRIES + 1;
-
-pub const LAST: usize = LP + 1;
-
-pub const WAITS: usize = LAST + 1;
-
-pub const DELIVERED: usize = WAITS + 1;
-
-pub const TAKEN: usize = DELIVERED + TABLE;
-
-pub const SUMS: usize = TAKEN + TABLE;
-
-pub const MARKS: usize = SUMS + TABLE;
-
-pub const TARGETS: usize = MARKS + TABLE;
-
-pub const DISTANCES: usize = TARGETS + FILLED;
-
-pub const HOPS: usize = DISTANCES + FILLED;
-
-pub const MESSAGES: usize = HOPS + FILLED;
-
-pub const PART: usize = MESSAGES + SENT_MOST;
-
-pub const STATE: usize = NODES_MOST * PART;
-
-// Codes of messages: 0 the end, up to this a label, above it a length by its rise.
-pub const LABELS: usize = NODES_MOST;
+// Codes of messages: 0 the end, up to this a label, above it a length by its rise. An enum of the three would take two bytes of memory a
+// message, and the state must lie within a stack of 8 KiB; so too an `Option` for each mark.
+pub const LABELS: u8 = 16;
 
 // No sum, or one that no node goes on with.
-pub const NO_SUM: usize = 255;
+pub const NO_SUM: u8 = 255;
 
-// A number of node i's part.
-pub fn get(s: &[u8], i: usize, o: usize) -> usize
-    requires { (1 ≤ i) × (i < 17) × (o < part_size) × (length s.now ≡ state_size) }
-    ensures { (result ≡ cells s.now i o) × (result ≤ 255) }
-{
-    s[(i - 1) * PART + o] as usize
+// A node's phases, in their order.
+#[repr(u8)]
+#[derive(Clone, Copy, Debug, PartialEq, Eq, Hash)]
+pub enum Phase {
+    Unstarted,
+    Started,
+    Stopped,
 }
 
-// The head of the arc at a site has sent more than was delivered on it. Most steps of a long list end here or soon after, so this function
-// and the two after it take their places from the site itself.
-pub fn has_more(s: &[u8], site: usize) -> bool
-    requires { (site < 256) × (length s.now ≡ state_size) }
-    ensures { result ≡ ltb (cells s.now (site / 16 + 1) (delivered_at + (site % 16 + 1)))
-        (cells s.now (site % 16 + 1) sent_count) }
-{
-    s[site / 16 * PART + (DELIVERED + (site % 16 + 1))] < s[site % 16 * PART + SENT]
+// One node's part of a run.
+#[derive(Clone, Copy)]
+pub struct Part {
+    pub phase: Phase,
+    // How many messages are sent, and how many entries filled: there is no heap, so their arrays are as long as they may grow.
+    pub sent: u8,
+    pub filled: u8,
+    pub lp: u8,
+    // The last length sent, and the head of the arc that the node waits for.
+    pub last: u8,
+    pub waits: u8,
+    // By head: messages delivered and taken, and the sum of the arc's length and its current item. A choice goes over the sums alone: an
+    // array of structs would mix them with the others, and is no plainer.
+    pub delivered: [u8; TABLE],
+    pub taken: [u8; TABLE],
+    pub sums: [u8; TABLE],
+    // By target: which entry it has, counted from 1; 0 for none.
+    pub marks: [u8; TABLE],
+    // In the order of filling, and of sending.
+    pub entries: [Filled; NODES_MOST],
+    pub messages: [u8; SENT_MOST],
 }
 
-// One more is delivered on the arc at a site.
-pub fn hand_over(s: &mut [u8], site: usize)
-    requires { (site < 256) × (cells s.old (site / 16 + 1) (delivered_at + (site % 16 + 1)) < 255) × (length s.old ≡ state_size) }
-    ensures { Stored (cells s.old) (site / 16 + 1)
-        (raised (cells s.old (site / 16 + 1)) (delivered_at + (site % 16 + 1))) (cells s.new) }
-{
-    let place = site / 16 * PART + (DELIVERED + (site % 16 + 1));
-    s[place] = s[place] + 1;
+// All parts: that of node 1 stands first. A node's number is a plain number: a type of its own would ask for its range wherever one is
+// built, and few functions are left that ask for it.
+#[derive(Drop)]
+pub struct State {
+    pub parts: [Part; NODES_MOST],
 }
 
-// The tail of the arc at a site waits for its head.
-pub fn waits_for(s: &[u8], site: usize) -> bool
-    requires { (site < 256) × (length s.now ≡ state_size) }
-    ensures { result ≡ eqb (cells s.now (site / 16 + 1) waits_at) (site % 16 + 1) }
+// Where the parts of the tail and of the head of the arc at a site stand.
+pub fn places(site: u8) -> (usize, usize)
+    ensures { (result.0 ≡ site / 16) × (result.1 ≡ site % 16) }
 {
-    s[site / 16 * PART + WAITS] as usize == site % 16 + 1
+    (usize::from(site / 16), usize::from(site % 16))
 }
 
-// A number into node i's part; no other part changes.
-pub fn put(s: &mut [u8], i: usize, o: usize, v: usize)
-    requires { (1 ≤ i) × (i < 17) × (o < part_size) × (v ≤ 255) × (length s.old ≡ state_size) }
-    ensures { Stored (cells s.old) i (upd (cells s.old i) o v) (cells s.new) }
-{
-    s[(i - 1) * PART + o] = v as u8;
-}
-
-// One more at a place.
-pub fn count(s: &mut [u8], i: usize, o: usize)
-    requires { (1 ≤ i) × (i < 17) × (o < part_size) × (cells s.old i o < 255) × (length s.old ≡ state_size) }
-    ensures { Stored (cells s.old) i (raised (cells s.old i) o) (cells s.new) }
-{
-    let k = get(&*s, i, o);
-    put(s, i, o, k + 1);
-}
-
-// Message w is sent.
-pub fn push(s: &mut [u8], i: usize, w: usize)
-    requires { (1 ≤ i) × (i < 17) × (w ≤ 255) × (cells s.old i sent_count < sent_most) × (length s.old ≡ state_size) }
-    ensures { Stored (cells s.old) i (pushed (cells s.old i) w) (cells s.new) }
-{
-    let k = get(&*s, i, SENT);
-    put(s, i, MESSAGES + k, w);
-    put(s, i, SENT, k + 1);
-}
-
-// Length x is sent as its rise over the last, unless it was the last.
-pub fn send_length(s: &mut [u8], i: usize, x: usize)
-    requires { (1 ≤ i) × (i < 17) × Rises (cells s.old i) x × (cells s.old i sent_count < sent_most) × (length s.old ≡ state_size) }
-    ensures { Stored (cells s.old) i (length_sent (cells s.old i) x) (cells s.new) }
-{
-    let last = get(&*s, i, LAST);
-    if last != x {
-        push(s, i, LABELS + (x - last));
-        put(s, i, LAST, x);
+// Room for a message or an entry is asked of the caller: each store uses some up, so that no fact of the type could say it.
+impl Part {
+    // A message is sent.
+    pub fn push(&mut self, message: u8)
+        requires { self.old.sent < sent_most }
+        ensures { numbers self.new ≡ pushed (numbers self.old) message }
+    {
+        self.messages[usize::from(self.sent)] = message;
+        self.sent += 1;
     }
-}
 
-// Rule 3: length x is sent, and the node waits for its arc to h.
-pub fn wait(s: &mut [u8], i: usize, x: usize, h: usize)
-    requires { (1 ≤ i) × (i < 17) × Rises (cells s.old i) x × (h < 17) × (cells s.old i sent_count < sent_most)
-        × (length s.old ≡ state_size) }
-    ensures { Stored (cells s.old) i (waited (cells s.old i) x h) (cells s.new) }
-{
-    send_length(s, i, x);
-    put(s, i, WAITS, h);
-}
-
-// Entry y is filled with distance x and first hop h, and LP is x.
-pub fn note(s: &mut [u8], i: usize, y: usize, x: usize, h: usize)
-    requires { (1 ≤ i) × (i < 17) × (y < 17) × (x ≤ 255) × (h < 17) × (cells s.old i entry_count < 16) × (length s.old ≡ state_size) }
-    ensures { Stored (cells s.old) i (noted (cells s.old i) y x h) (cells s.new) }
-{
-    let k = get(&*s, i, ENTRIES);
-    put(s, i, TARGETS + k, y);
-    put(s, i, DISTANCES + k, x);
-    put(s, i, HOPS + k, h);
-    put(s, i, MARKS + y, k + 1);
-    put(s, i, ENTRIES, k + 1);
-    put(s, i, LP, x);
-}
-
-// Rule 4, a label y with no entry yet.
-pub fn fill(s: &mut [u8], i: usize, h: usize, x: usize, y: usize)
-    requires { (1 ≤ i) × (i < 17) × (h < 17) × Rises (cells s.old i) x × (y < 17) × (cells s.old i sent_count + 1 < sent_most)
-        × (cells s.old i entry_count < 16) × (length s.old ≡ state_size) }
-    ensures { Stored (cells s.old) i (filled (cells s.old i) h x y) (cells s.new) }
-{
-    send_length(s, i, x);
-    push(s, i, y);
-    note(s, i, y, x, h);
-}
-
-// Rule 2: the end is sent, and the node stops.
-pub fn stop(s: &mut [u8], i: usize)
-    requires { (1 ≤ i) × (i < 17) × (cells s.old i sent_count < sent_most) × (length s.old ≡ state_size) }
-    ensures { Stored (cells s.old) i (stopped_part (cells s.old i)) (cells s.new) }
-{
-    push(s, i, 0);
-    put(s, i, PHASE, 2);
-}
-
-// Node i's start, but for its work.
-pub fn begin(s: &mut [u8], i: usize)
-    requires { (1 ≤ i) × (i < 17) × (cells s.old i sent_count < sent_most) × (cells s.old i entry_count < 16)
-        × (length s.old ≡ state_size) }
-    ensures { Stored (cells s.old) i (begun_part (cells s.old i) i) (cells s.new) }
-{
-    push(s, i, i);
-    note(s, i, i, 0, 0);
-    put(s, i, PHASE, 1);
-}
-
-// The arc's length, which is its sum before anything is taken; 255 where there is no arc, as to number 0, which is no node.
-pub fn length_of(net: &[u8], i: usize, h: usize) -> usize
-    requires { (1 ≤ i) × (i < 17) × (h < 17) × (length net.now ≡ layout_size) }
-    ensures { (result ≡ len_at net.now i h) × (result ≤ 255) }
-{
-    if h == 0 {
-        return NO_SUM;
+    // A length is sent as its rise over the last, unless it was the last.
+    pub fn send_length(&mut self, length: u8)
+        requires { Rises (numbers self.old) length × (self.old.sent < sent_most) }
+        ensures { numbers self.new ≡ length_sent (numbers self.old) length }
+    {
+        if self.last != length {
+            self.push(LABELS + (length - self.last));
+            self.last = length;
+        }
     }
-    net[network::LENGTHS + (16 * (i - 1) + (h - 1))] as usize
-}
 
-// No phase, no messages, no entries, nothing delivered or taken.
-pub fn zero(s: &mut [u8], i: usize)
-    requires { (1 ≤ i) × (i < 17) × (length s.old ≡ state_size) }
-    ensures { Stored (cells s.old) i (zeroed (cells s.old i) targets_at) (cells s.new) }
-{
-    let mut k: usize = 0;
-    while k < TARGETS {
-        put(s, i, k, 0);
-        k += 1;
+    // Rule 3: a length is sent, and the node waits for its arc to a head.
+    pub fn wait(&mut self, length: u8, head: u8)
+        requires { Rises (numbers self.old) length × (self.old.sent < sent_most) }
+        ensures { numbers self.new ≡ waited (numbers self.old) length head }
+    {
+        self.send_length(length);
+        self.waits = head;
     }
-}
 
-// Each arc's sum as it is before any message: a node then chooses without looking at the network.
-pub fn lay_sums(net: &[u8], s: &mut [u8], i: usize)
-    requires { (1 ≤ i) × (i < 17) × (length net.now ≡ layout_size) × (length s.old ≡ state_size) }
-    ensures { Stored (cells s.old) i (with_sums net.now i (cells s.old i) 17)
-        (cells s.new) }
-{
-    let mut h: usize = 0;
-    while h < TABLE {
-        let x = length_of(net, i, h);
-        put(s, i, SUMS + h, x);
-        h += 1;
+    // An entry is filled, and LP is its distance.
+    pub fn note(&mut self, entry: Filled)
+        requires { (entry.target < table_size) × (self.old.filled < entry_most) }
+        ensures { numbers self.new ≡ noted (numbers self.old) entry.target entry.distance entry.hop }
+    {
+        self.entries[usize::from(self.filled)] = entry;
+        self.filled += 1;
+        self.marks[usize::from(entry.target)] = self.filled;
+        self.lp = entry.distance;
     }
-}
 
-// All parts as they are before the first step.
-pub fn clear(net: &[u8], s: &mut [u8])
-    requires { (length net.now ≡ layout_size) × (length s.old ≡ state_size) }
-    ensures { cells s.new ≡ cleared net.now (cells s.old) 16 }
-{
-    let mut i: usize = 0;
-    while i < 16 {
-        i += 1;
-        zero(s, i);
-        lay_sums(net, s, i);
+    // Rule 4, a label with no entry yet.
+    pub fn fill(&mut self, entry: Filled)
+        requires { Rises (numbers self.old) entry.distance × (entry.target < table_size) × (self.old.sent + 1 < sent_most)
+            × (self.old.filled < entry_most) }
+        ensures { numbers self.new ≡ filled (numbers self.old) entry.hop entry.distance entry.target }
+    {
+        self.send_length(entry.distance);
+        self.push(entry.target);
+        self.note(entry);
+    }
+
+    // Rule 2: the end is sent, and the node stops.
+    pub fn stop(&mut self)
+        requires { self.old.sent < sent_most }
+        ensures { numbers self.new ≡ stopped_part (numbers self.old) }
+    {
+        self.push(0);
+        self.phase = Phase::Stopped;
+    }
+
+    // One more message is delivered on the arc to a head.
+    fn deliver(&mut self, head: usize)
+        requires { (head < table_size) × (numbers self.old (delivered_at + head) < 255) }
+        ensures { numbers self.new ≡ raised (numbers self.old) (delivered_at + head) }
+    {
+        self.delivered[head] += 1;
+    }
+
+    // One more message is taken on the arc to a head, if one is there: its number in the order of sending.
+    fn take(&mut self, head: usize) -> Option<u8>
+        requires { (head < table_size) }
+        ensures { (numbers self.new ≡ took (numbers self.old) head) × (result ≡ waiting (numbers self.old) head) }
+    {
+        let taken = self.taken[head];
+        if self.delivered[head] <= taken {
+            return None;
+        }
+        self.taken[head] = taken + 1;
+        Some(taken)
+    }
+
+    // As it is before the first step: no phase, no messages, no entries, nothing delivered or taken. Each arc's sum is its length until a
+    // message comes, 255 where there is no arc, as to number 0, which is no node: a node then chooses without looking at the network.
+    // A type for the node's number would be built with the same fact at each caller: no plainer.
+    pub fn clear(&mut self, net: &Network, node: usize)
+        requires { (1 ≤ node) × (node < table_size) }
+        ensures { numbers self.new ≡ with_sums net.now.layout node (zeroed (numbers self.old) targets_at) table_size }
+    {
+        self.phase = Phase::Unstarted;
+        self.sent = 0;
+        self.filled = 0;
+        self.lp = 0;
+        self.last = 0;
+        self.waits = 0;
+        self.delivered = [0; TABLE];
+        self.taken = [0; TABLE];
+        self.marks = [0; TABLE];
+        // One by one: `copy_from_slice` would have the library need `memmove`, and the build for ARM takes no comparison of addresses.
+        let mut sums = [NO_SUM; TABLE];
+        for head in 0..NODES_MOST {
+            sums[head + 1] = net.layout.lengths[16 * (node - 1) + head];
+        }
+        self.sums = sums;
+    }
+
+    // A node's start, but for its work.
+    pub fn begin(&mut self, node: u8)
+        requires { (node < table_size) × (self.old.sent < sent_most) × (self.old.filled < entry_most) }
+        ensures { numbers self.new ≡ begun_part (numbers self.old) node }
+    {
+        self.push(node);
+        self.note(Filled {
+            target: node,
+            distance: 0,
+            hop: 0,
+        });
+        self.phase = Phase::Started;
     }
 }

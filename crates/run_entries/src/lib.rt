@@ -1,74 +1,47 @@
-// What a finished run's array says: who has stopped, and a node's entry for a target.
+// What a finished run says: who has stopped, and a node's entry for a target.
 #![tactic(auto)]
 
-ghost use Rattle.std.specs.Prelude.{◌≡◌, ◌+◌, ◌≤◌, ◌<◌, length, if◌then◌else◌};
-ghost use Rattle.method.specs.Marks.{distance_of, hop_of};
-ghost use Rattle.run_cells.specs.Part.{cells, state_size, state_of};
-ghost use Rattle.run_cells.specs.Caches.{Readable};
+ghost use Rattle.std.specs.Prelude.{◌≡◌, ◌≤◌, ◌<◌};
 ghost use Rattle.method.specs.Entries.{is_stopped, stopped_to, entry_of};
+ghost use Rattle.method.specs.Meant.{meant};
+ghost use Rattle.run_cells.specs.Part.{cells, state_of, table_size};
+ghost use Rattle.run_cells.specs.Caches.{Readable};
 
-use method::Distance;
-use run_cells::*;
+use method::Entry;
+use run_cells::{Phase, State};
 
-// Beside a mark there is no first hop.
-pub const NO_HOP: usize = 255;
-
-// Node i has stopped.
-pub fn has_stopped(s: &[u8], i: usize) -> bool
-    requires { (1 ≤ i) × (i < 17) × (length s.now ≡ state_size) }
-    ensures { result ≡ is_stopped (state_of (cells s.now) i) }
+// A node has stopped. Its number is a plain one: a type for it would be built with the same fact at each caller, no plainer.
+pub fn has_stopped(state: &State, node: usize) -> bool
+    requires { (1 ≤ node) × (node < table_size) }
+    ensures { result ≡ is_stopped (state_of (cells state.now) node) }
 {
-    1 < get(s, i, PHASE)
+    matches!(state.parts[node - 1].phase, Phase::Stopped)
 }
 
-// One more where the test holds.
-pub fn one_more(c: usize, test: bool) -> usize
-    requires { c < 65535 }
-    ensures { result ≡ (if test then 1 else 0) + c }
+// How many of the nodes 1 to `nodes` have stopped.
+pub fn count_stopped(state: &State, nodes: usize) -> usize
+    requires { nodes < table_size }
+    ensures { result ≡ stopped_to (state_of (cells state.now)) nodes }
 {
-    if test {
-        return c + 1;
-    }
-    c
+    state.parts[..nodes]
+        .iter()
+        .filter(|part| matches!(part.phase, Phase::Stopped))
+        .count()
 }
 
-// How many of the nodes 1 to n have stopped.
-pub fn count_stopped(s: &[u8], n: usize) -> usize
-    requires { (n < 17) × (length s.now ≡ state_size) }
-    ensures { result ≡ stopped_to (state_of (cells s.now)) n }
+// A node's entry for a target. The numbers are plain ones, as above. `Readable` is what a run leaves in a part: it does not hold between
+// the stores that fill one entry, so that a type which says it would be no plainer.
+pub fn entry(state: &State, node: usize, target: usize) -> Entry
+    requires { (1 ≤ node) × (node < table_size) × (target < table_size) × Readable (cells state.now node) }
+    ensures { meant result ≡ entry_of (state_of (cells state.now) node).node target }
 {
-    let mut stopped: usize = 0;
-    let mut i: usize = 0;
-    while i < n {
-        i += 1;
-        stopped = one_more(stopped, has_stopped(s, i));
+    let part = &state.parts[node - 1];
+    let mark = part.marks[target];
+    if mark != 0 {
+        return Entry::from(part.entries[usize::from(mark - 1)]);
     }
-    stopped
-}
-
-// Node i's distance to y, or the mark in its place.
-pub fn distance(s: &[u8], i: usize, y: usize) -> Distance
-    requires { (1 ≤ i) × (i < 17) × (y < 17) × Readable (cells s.now i) × (length s.now ≡ state_size) }
-    ensures { result.0 ≡ distance_of (entry_of (state_of (cells s.now) i).node y) }
-{
-    let k = get(s, i, MARKS + y);
-    if k != 0 {
-        return Distance(get(s, i, DISTANCES + (k - 1)) as u16);
+    match part.phase {
+        Phase::Stopped => Entry::Unreachable,
+        Phase::Unstarted | Phase::Started => Entry::Unknown,
     }
-    if has_stopped(s, i) {
-        return Distance::UNREACHABLE;
-    }
-    Distance::UNKNOWN
-}
-
-// Node i's first hop to y, 0 for itself only; NO_HOP beside a mark.
-pub fn first_hop(s: &[u8], i: usize, y: usize) -> usize
-    requires { (1 ≤ i) × (i < 17) × (y < 17) × Readable (cells s.now i) × (length s.now ≡ state_size) }
-    ensures { result ≡ hop_of (entry_of (state_of (cells s.now) i).node y) }
-{
-    let k = get(s, i, MARKS + y);
-    if k == 0 {
-        return NO_HOP;
-    }
-    get(s, i, HOPS + (k - 1))
 }

@@ -19,7 +19,8 @@ use Rattle.method.proofs.Sent.{item_last_len}
 use Rattle.method.proofs.Acts.{floor}
 use Rattle.method.proofs.Oldest.{good_oldest}
 use Rattle.method.proofs.Again.{Held}
-use Rattle.network.specs.Layout.{count_at, sites_at, len_at, arc_at, arcs_from, net_of, Laid}
+use Rattle.network.specs.declared.Layout.{Layout}
+use Rattle.network.specs.Layout.{len_at, arc_at, arcs_from, net_of, Laid}
 use Rattle.network.proofs.WithArc.{arc_len}
 use Rattle.run_cells.specs.Part.{Part, table_size, lp_at, sums_at, no_sum, item_sum, node_of, site_of}
 use Rattle.run_node.specs.Rules.{least}
@@ -28,14 +29,14 @@ use Rattle.run_node.proofs.Least.{least_none, least_is}
 use Rattle.run_node.proofs.Limits.{i_low, lp_low, item_low}
 
 -- an arc's length is the table's
-given_len : (g : List ℕ) (a k i j l : ℕ) → IsArc (arcs_from g a k) i j l → l ≡ len_at g i j
+given_len : (g : Layout) (a k i j l : ℕ) → IsArc (arcs_from g a k) i j l → l ≡ len_at g i j
 given_len g a zero i j l m = absurd m
 given_len g a (suc k) i j l (inl q) =
-    sym q.2 ∙ arc_len g (get_or g (sites_at + a) 0) ∙ ap (λ (x : ℕ). len_at g x (arc_at g a).head) q.0
+    sym q.2 ∙ arc_len g (get_or g.sites a 0) ∙ ap (λ (x : ℕ). len_at g x (arc_at g a).head) q.0
     ∙ ap (λ (x : ℕ). len_at g i x) q.1
 given_len g a (suc k) i j l (inr m) = given_len g (suc a) k i j l m
 
-module _ (g : List ℕ) (la : Laid g) (ss : ℕ → List Msg) (m : ℕ → Part) (i : ℕ) (rd : Ready g ss m i) where
+module _ (g : Layout) (la : Laid g) (ss : ℕ → List Msg) (m : ℕ → Part) (i : ℕ) (rd : Ready g ss m i) where
   abbrev items : ℕ → Item
   items h = item (heard ss (site_of (m i)) h)
 
@@ -44,7 +45,7 @@ module _ (g : List ℕ) (la : Laid g) (ss : ℕ → List Msg) (m : ℕ → Part)
 
   pub arc_length : (j l : ℕ) → IsArc (net_of g).arcs i j l → (l ≡ len_at g i j) × (l ≤ 15)
   arc_length j l a = (
-    given_len g 0 (get_or g count_at 0) i j l a,
+    given_len g 0 (g.count) i j l a,
     omega (arith, la.accepted.valid.short i j l a, la.accepted.sizes.lengths.1),
   )
 

@@ -1,5 +1,5 @@
 -- The least of a part's sums, looked for in two halves.
-use mathlib.Core.Path.{◌≡◌, refl, sym, ap, ◌∙◌}
+use mathlib.Core.Path.{◌≡◌, refl, sym, ap, ap₂, ◌∙◌}
 use mathlib.Core.Bool.{Bool, true, false, cond}
 use Prim.Native.Nat.{ℕ, zero, suc, ◌+◌, ◌≤◌}
 use native.Mathlib.Omega.{arith}
@@ -9,6 +9,7 @@ use lib.Dec.{ltb}
 use borrow.Author.Tests.{ltb-true, ltb-false, lt-ltb, le-ltb}
 use Rattle.method.specs.Rules.{Choice}
 use Rattle.run_cells.specs.Part.{Part, sums_at, no_sum}
+use Rattle.run_node.specs.declared.Chosen.{Chosen}
 use Rattle.run_node.specs.Rules.{least}
 
 -- the lesser sum of two, of equals the first
@@ -65,11 +66,13 @@ halves f b (suc k) =
     ap (least f) e ∙ ap (λ (c : Choice). lesser_of c (arc_to f (suc (b + k)))) (halves f b k)
     ∙ lesser_assoc (least f b) (after f b k) (arc_to f (suc (b + k)))
 
--- the code's `lesser`, where a sum s of head h stands for a, and x of k for b
-pub lesser_is : (a b c : Choice) (s h x k : ℕ) → s ≡ a.sum → h ≡ a.head → x ≡ b.sum → k ≡ b.head → c ≡ lesser_of a b
-    → (cond (ltb x s) x s ≡ c.sum) × (cond (ltb x s) k h ≡ c.head)
-lesser_is a b c s h x k es eh ex ek e = rw (es, eh, ex, ek, e) (go (ltb b.sum a.sum))
+-- the code's `lesser`, where c stands for a and d for b
+abbrev pub picked : Chosen → Choice
+picked c = record { sum = c.sum; head = c.head }
+
+pub lesser_is : (a b : Choice) (c d : Chosen) → picked c ≡ a → picked d ≡ b → picked (cond (ltb d.sum c.sum) d c) ≡ lesser_of a b
+lesser_is a b c d ec ed = go (ltb d.sum c.sum) ∙ ap₂ lesser_of ec ed
   where
-    go : (t : Bool) → (cond t b.sum a.sum ≡ (cond t b a).sum) × (cond t b.head a.head ≡ (cond t b a).head)
-    go true = (refl, refl)
-    go false = (refl, refl)
+    go : (t : Bool) → picked (cond t d c) ≡ cond t (picked d) (picked c)
+    go true = refl
+    go false = refl

@@ -15,6 +15,7 @@ use Rattle.method.proofs.View.{started_unstarted}
 use Rattle.method.proofs.Bounded.{table_few}
 use Rattle.method.proofs.Working.{work_ok}
 use Rattle.method.proofs.Tight.{at_most_243, sent_within, within_before}
+use Rattle.network.specs.declared.Layout.{Layout}
 use Rattle.network.specs.Layout.{net_of, Laid}
 use Rattle.run_cells.specs.Part.{Part, entry_most, table_size, sent_most, sent_count, entry_count, lp_at, node_of, site_of}
 use Rattle.run_cells.proofs.Lists.{sent_length, table_length}
@@ -54,7 +55,7 @@ module _ (net : Net) (small : Sizes net) (va : Valid net) (i : ℕ) (at : IsNode
   pub last_short : last_len nd.sent ≤ 240
   last_short = omega (arith, product, ok.far)
 
-module _ (g : List ℕ) (la : Laid g) (ss : ℕ → List Msg) (m : ℕ → Part) (i : ℕ) (rd : Ready g ss m i) where
+module _ (g : Layout) (la : Laid g) (ss : ℕ → List Msg) (m : ℕ → Part) (i : ℕ) (rd : Ready g ss m i) where
   pub i_low : i < table_size
   i_low = omega (arith, rd.node, la.accepted.sizes.nodes.1)
 

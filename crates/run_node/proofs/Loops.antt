@@ -1,8 +1,8 @@
 -- What the two loops of a node's work keep: the work from here on is the work from where the loop began.
-use mathlib.Core.Path.{◌≡◌, refl, sym, ap₂, subst, ◌∙◌}
+use mathlib.Core.Path.{◌≡◌, refl, sym, ap, ap₂, subst, ◌∙◌}
 use mathlib.Core.Logic.{◌≢◌}
 use mathlib.Core.List.{List}
-use Prim.Native.Nat.{ℕ, ◌+◌, ◌≤◌, ◌<◌}
+use Prim.Native.Nat.{ℕ, ◌+◌, ◌-◌, ◌≤◌, ◌<◌}
 use native.Mathlib.Nat.{le_refl}
 use native.Mathlib.Omega.{arith}
 use lib.ListN.{get_or}
@@ -11,8 +11,14 @@ use Rattle.method.specs.Rules.{Choice, stop, Go, to₁, to₃}
 use Rattle.method.specs.Work.{heard, untaken, work}
 use Rattle.method.proofs.Again.{Held}
 use Rattle.method.proofs.Enough.{work_rests}
-use Rattle.network.specs.Layout.{lmax_at, net_of, Laid}
-use Rattle.run_cells.specs.Part.{Part, lp_at, node_of, site_of}
+use Rattle.network.specs.declared.Layout.{Layout}
+use Rattle.network.specs.declared.Network.{Network}
+use Rattle.network.proofs.Laws.{laid}
+use Rattle.network.specs.Layout.{net_of, Laid}
+use Rattle.run_cells.specs.declared.State.{State}
+use Rattle.run_cells.specs.Part.{Part, table_size, lp_at, node_of, site_of, cells}
+use Rattle.run_cells.proofs.Loads.{lp_is}
+use Rattle.run_cells.proofs.Stored.{blank, Placed, own_part}
 use Rattle.run_cells.specs.Stores.{Stored, stopped_part}
 use Rattle.run_cells.proofs.MessageStores.{stopped_phase, stop_site}
 use Rattle.run_cells.proofs.Caching.{stop_caches}
@@ -20,17 +26,17 @@ use Rattle.run_node.specs.declared.Heard.{Heard}
 use Rattle.run_node.specs.declared.Heard.TheVariants.{Nothing, Label, Length}
 use Rattle.run_node.specs.Rules.{IsChoice, takes, took_of, Able}
 use Rattle.run_node.specs.Working.{Ready, Working, Did, Worked}
-use Rattle.run_node.proofs.Limits.{table_low}
+use Rattle.run_node.proofs.Limits.{i_node, table_low}
 use Rattle.run_node.proofs.Choice.{stops, holds}
 use Rattle.run_node.proofs.Taking.{able}
 use Rattle.run_node.proofs.Taken.{GoesOn, Went, takes_went}
 
 -- what node i has yet to take
-abbrev pub left : List ℕ → (ℕ → Part) → ℕ → ℕ
+abbrev pub left : Layout → (ℕ → Part) → ℕ → ℕ
 left g m i = untaken (net_of g).arcs (site_of (m i))
 
 -- node i, at work, goes on from m to n; it is then at rule 1 or at rule 3
-pub record Going (g : List ℕ) (i : ℕ) (go : Go) (m n : ℕ → Part) : Type 0 where
+pub record Going (g : Layout) (i : ℕ) (go : Go) (m n : ℕ → Part) : Type 0 where
   pub there : (j : ℕ) → j ≢ i → n j ≡ m j
   pub ready : (ss : ℕ → List Msg) → Ready g ss m i → Ready g ss n i
   pub held : (ss : ℕ → List Msg) → Ready g ss m i → Held (net_of g) i (λ k. item (heard ss (site_of (n i)) k)) go (node_of (n i))
@@ -40,11 +46,11 @@ pub record Going (g : List ℕ) (i : ℕ) (go : Go) (m n : ℕ → Part) : Type 
 abbrev pub pick : ℕ → ℕ → Choice
 pick x h = record { sum = x; head = h }
 
-pub going_refl : (g : List ℕ) (i : ℕ) (m : ℕ → Part) → Going g i to₁ m m
+pub going_refl : (g : Layout) (i : ℕ) (m : ℕ → Part) → Going g i to₁ m m
 going_refl g i m =
     record { there = λ j ne. refl; ready = λ ss rd. rd; held = λ ss rd. tt; same = λ ss rd. refl; less = λ ss rd. le_refl (left g m i) }
 
-pub going_trans : {g : List ℕ} {i : ℕ} {go go' : Go} {a b c : ℕ → Part} → Going g i go a b → Going g i go' b c → Going g i go' a c
+pub going_trans : {g : Layout} {i : ℕ} {go go' : Go} {a b c : ℕ → Part} → Going g i go a b → Going g i go' b c → Going g i go' a c
 going_trans p q =
     record {
       there = λ j ne. q.there j ne ∙ p.there j ne;
@@ -54,7 +60,7 @@ going_trans p q =
       less = λ ss rd. omega (arith, p.less ss rd, q.less ss (p.ready ss rd));
     }
 
-pub going_worked : {g : List ℕ} {i : ℕ} {go : Go} {a b c : ℕ → Part} → Going g i go a b → Worked g b i c → Worked g a i c
+pub going_worked : {g : Layout} {i : ℕ} {go : Go} {a b c : ℕ → Part} → Going g i go a b → Worked g b i c → Worked g a i c
 going_worked p q =
     record {
       there = λ j ne. q.there j ne ∙ p.there j ne;
@@ -64,12 +70,20 @@ going_worked p q =
           record { site = d.site ∙ p.same ss rd; caches = d.caches; waits = d.waits };
     }
 
-pub going_working : {g : List ℕ} {i : ℕ} {go : Go} {a b : ℕ → Part} → Going g i go a b → Working g a i → Working g b i
+pub going_working : {g : Layout} {i : ℕ} {go : Go} {a b : ℕ → Part} → Going g i go a b → Working g a i → Working g b i
 going_working p w = (w.0, p.ready w.0 w.1)
 
-module _ (g : List ℕ) (la : Laid g) (i : ℕ) where
+-- a node at work is one of the house, and its part has a place
+pub number_low : (net : Network) {m : ℕ → Part} {i : ℕ} → Working net.layout m i → (1 ≤ i) × (i < table_size)
+number_low net {m} {i} w = i_node net.layout (laid net) w.0 m i w.1
+
+-- the LP of its part
+pub lp_of : (s : State) (i : ℕ) → 1 ≤ i → Placed s i → (get_or s.parts (i - 1) blank).lp ≡ cells s i lp_at
+lp_of s i pos le = sym (ap (λ (f : Part). f lp_at) (own_part s i blank pos le) ∙ lp_is (get_or s.parts (i - 1) blank))
+
+module _ (g : Layout) (la : Laid g) (i : ℕ) where
   -- rules 1 and 2
-  module _ (m : ℕ → Part) (x h lp lmax : ℕ) (is : IsChoice (m i) x h) (el : lp ≡ m i lp_at) (em : lmax ≡ get_or g lmax_at 0) where
+  module _ (m : ℕ → Part) (x h lp lmax : ℕ) (is : IsChoice (m i) x h) (el : lp ≡ m i lp_at) (em : lmax ≡ g.lmax) where
     pub chosen : x ≤ lp + lmax → Going g i (to₃ (pick x h)) m m
     chosen le =
         record {

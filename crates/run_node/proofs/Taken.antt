@@ -12,6 +12,7 @@ use Rattle.method.specs.Message.{Msg, label, len, end, last_len, item, sent_afte
 use Rattle.method.specs.Rules.{Choice, fill, Go, to₁, to₃, took}
 use Rattle.method.specs.Work.{Site, heard, turn_at, became, took_one, untaken, work}
 use Rattle.method.proofs.Again.{Held}
+use Rattle.network.specs.declared.Layout.{Layout}
 use Rattle.network.specs.Layout.{len_at, net_of, Laid}
 use Rattle.run_cells.specs.Part.{Part, entry_most, table_size, label_most, entry_count, last_at, delivered_at, taken_at, sums_at}
 use Rattle.run_cells.specs.Part.{marks_at, no_sum}
@@ -32,19 +33,19 @@ use Rattle.run_node.proofs.Limits.{table_low}
 use Rattle.run_node.proofs.Taking.{goes_on, on, h_low, waits_there, inside, msg_is, takes_msg, has_one, new_label, room, last_le}
 
 -- the work goes on, from rule 1 or rule 3
-abbrev pub GoesOn : List ℕ → (ℕ → List Msg) → ℕ → (ℕ → Part) → (ℕ → Part) → Go → Type 0
+abbrev pub GoesOn : Layout → (ℕ → List Msg) → ℕ → (ℕ → Part) → (ℕ → Part) → Go → Type 0
 GoesOn g ss i m n go =
     Ready g ss n i × Held (net_of g) i (λ k. item (heard ss (site_of (n i)) k)) go (node_of (n i))
     × (work (net_of g) i ss (site_of (n i)) ≡ work (net_of g) i ss (site_of (m i)))
     × (untaken (net_of g).arcs (site_of (n i)) < untaken (net_of g).arcs (site_of (m i)))
 
 -- what the code's answer says of the work
-abbrev pub Went : List ℕ → (ℕ → List Msg) → ℕ → Choice → (ℕ → Part) → (ℕ → Part) → Heard → Type 0
+abbrev pub Went : Layout → (ℕ → List Msg) → ℕ → Choice → (ℕ → Part) → (ℕ → Part) → Heard → Type 0
 Went g ss i p m n Nothing = Did g ss i (m i) (n i)
 Went g ss i p m n Label = GoesOn g ss i m n (to₃ p)
 Went g ss i p m n Length = GoesOn g ss i m n to₁
 
-module _ (g : List ℕ) (la : Laid g) (ss : ℕ → List Msg) (m n : ℕ → Part) (i : ℕ) (rd : Ready g ss m i) (x h : ℕ)
+module _ (g : Layout) (la : Laid g) (ss : ℕ → List Msg) (m n : ℕ → Part) (i : ℕ) (rd : Ready g ss m i) (x h : ℕ)
     (held : Held (net_of g) i (λ k. item (heard ss (site_of (m i)) k)) (to₃ (record { sum = x; head = h })) (node_of (m i))) where
   abbrev p : Choice
   p = record { sum = x; head = h }

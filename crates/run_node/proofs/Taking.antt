@@ -20,6 +20,7 @@ use Rattle.method.proofs.Turns.{Took, Turned}
 use Rattle.method.proofs.Oldest.{oldest_suc}
 use Rattle.method.proofs.Working.{turn_at_ok, took_ok, took_held, took_less}
 use Rattle.method.proofs.Enough.{work_rests, work_took}
+use Rattle.network.specs.declared.Layout.{Layout}
 use Rattle.network.specs.Layout.{net_of, Laid}
 use Rattle.run_cells.specs.Part.{Part, table_size, label_most, sent_most, sent_count, entry_count, lp_at, last_at, delivered_at, taken_at}
 use Rattle.run_cells.specs.Part.{sums_at, marks_at, no_sum, sent_from, msg_of, node_of, site_of, entry_marked}
@@ -60,7 +61,7 @@ send_longer s x = go (eqb (last_len s) x)
     go true = omega arith
     go false = omega arith
 
-module _ (g : List ℕ) (la : Laid g) (ss : ℕ → List Msg) (m : ℕ → Part) (i : ℕ) (rd : Ready g ss m i) where
+module _ (g : Layout) (la : Laid g) (ss : ℕ → List Msg) (m : ℕ → Part) (i : ℕ) (rd : Ready g ss m i) where
   va : Valid (net_of g)
   va = la.accepted.valid
 
@@ -139,11 +140,10 @@ module _ (g : List ℕ) (la : Laid g) (ss : ℕ → List Msg) (m : ℕ → Part)
 
     rises : Rises (m i) x
     rises =
-        let l = rd.caches.last in
         let sp : m i lp_at ≤ last_len (node_of (m i)).sent = rd.site.ok.spoken in
         record {
           least = last_le;
-          most = omega (arith, held.1, la.accepted.sizes.lengths.1);
+          most = omega (arith, held.1, la.accepted.sizes.lengths.1, rd.caches.last);
           short = omega (arith, held.1, lp_low g la ss m i rd);
         }
 

@@ -7,6 +7,7 @@ use Rattle.method.specs.Rules.{started, Node}
 use Rattle.method.specs.Work.{work}
 use Rattle.method.specs.Steps.{sents}
 use Rattle.method.specs.Invariant.{Good, ends_sent, SiteOk}
+use Rattle.network.specs.declared.Layout.{Layout}
 use Rattle.network.specs.Layout.{net_of}
 use Rattle.run_cells.specs.Part.{Part, sent_most, phase_at, waits_at, site_of, state_of}
 use Rattle.run_cells.specs.Caches.{Caches}
@@ -16,7 +17,7 @@ use Rattle.run_node.specs.Rules.{least}
 abbrev pub SentFits : Node → Type 0
 SentFits nd = length nd.sent < sent_most + ends_sent nd.phase
 
-pub record Ready (g : List ℕ) (ss : ℕ → List Msg) (m : ℕ → Part) (i : ℕ) : Type 0 where
+pub record Ready (g : Layout) (ss : ℕ → List Msg) (m : ℕ → Part) (i : ℕ) : Type 0 where
   pub node : IsNode (net_of g).n i
   pub same : (j : ℕ) → j ≢ i → sents (state_of m) j ≡ ss j
   pub lists : (j : ℕ) → Good (net_of g).arcs j (ss j)
@@ -27,7 +28,7 @@ pub record Ready (g : List ℕ) (ss : ℕ → List Msg) (m : ℕ → Part) (i : 
   pub up : (site_of (m i)).node.phase ≡ started
   pub caches : Caches g i ss (m i)
 
-abbrev pub Working : List ℕ → (ℕ → Part) → ℕ → Type 0
+abbrev pub Working : Layout → (ℕ → Part) → ℕ → Type 0
 Working g m i = (ss : ℕ → List Msg) × Ready g ss m i
 
 -- a started node at rest has the head that it waits for in its place
@@ -35,11 +36,11 @@ abbrev pub WaitsFor : Part → Type 0
 WaitsFor f = f phase_at ≡ 1 → f waits_at ≡ (least f 16).head
 
 -- node i's part f has become f' by its work
-pub record Did (g : List ℕ) (ss : ℕ → List Msg) (i : ℕ) (f f' : Part) : Type 0 where
+pub record Did (g : Layout) (ss : ℕ → List Msg) (i : ℕ) (f f' : Part) : Type 0 where
   pub site : site_of f' ≡ work (net_of g) i ss (site_of f)
   pub caches : Caches g i ss f'
   pub waits : WaitsFor f'
 
-pub record Worked (g : List ℕ) (m : ℕ → Part) (i : ℕ) (n : ℕ → Part) : Type 0 where
+pub record Worked (g : Layout) (m : ℕ → Part) (i : ℕ) (n : ℕ → Part) : Type 0 where
   pub there : (j : ℕ) → j ≢ i → n j ≡ m j
   pub does : (ss : ℕ → List Msg) → Ready g ss m i → Did g ss i (m i) (n i)

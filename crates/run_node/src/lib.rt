@@ -1,137 +1,140 @@
-// A node's work over the state's array: rules 1 to 4, until it waits or stops.
+// A node's work: rules 1 to 4, until it waits or stops.
 #![tactic(auto)]
 
-ghost use Rattle.std.specs.Prelude.{◌≡◌, ◌+◌, ◌-◌, ◌≤◌, ◌<◌, length, ltb, if◌then◌else◌};
-ghost use Rattle.network.specs.Layout.{Laid};
-ghost use Rattle.run_cells.specs.Part.{cells, state_size, label_most, no_sum};
+ghost use Rattle.std.specs.Prelude.{◌≡◌, ◌+◌, ◌-◌, ◌≤◌, ◌<◌, ltb, if◌then◌else◌};
+ghost use Rattle.run_cells.specs.Part.{numbers, cells, table_size, label_most, no_sum};
 ghost use Rattle.run_cells.specs.Stores.{Stored, Rises};
 ghost use Rattle.run_node.specs.Rules.{IsChoice, hears, takes, heard_of, took_of, Able, Room};
 ghost use Rattle.run_node.specs.Working.{Working, Worked};
 
+use method::Filled;
+use network::Network;
 use run_cells::*;
 
-// A chosen arc: its sum, and its head.
-#[derive(Clone, Copy)]
+// A chosen arc: its sum, and its head. No sum is the number 255, as in `least` of specs/Rules, and not a `None`: the sums of a part are
+// bytes, and a choice is one comparison of two.
+#[derive(Clone, Copy, Debug, PartialEq, Eq, Hash)]
 pub struct Chosen {
-    pub sum: usize,
-    pub head: usize,
+    pub sum: u8,
+    pub head: u8,
 }
 
-// The lesser sum of two, where h is the higher head.
-pub fn lesser(c: Chosen, x: usize, h: usize) -> Chosen
-    ensures { (result.sum ≡ (if ltb x c.sum then x else c.sum)) × (result.head ≡ (if ltb x c.sum then h else c.head)) }
-{
-    if x < c.sum {
-        return Chosen { sum: x, head: h };
+impl Chosen {
+    // The lesser sum of two; of equals this one, which has the lower head: `min` of an `Ord` would compare the heads too, for nothing.
+    pub fn lesser(self, other: Chosen) -> Chosen
+        ensures { result ≡ (if ltb other.sum self.sum then other else self) }
+    {
+        if other.sum < self.sum { other } else { self }
     }
-    c
 }
 
-// Rule 1: of i's arcs the one with the least sum; of equals, the lowest head. Heads 1 to 8 and 9 to 16 side by side, since neither half
-// has to wait for the other.
-pub fn choose(s: &[u8], i: usize) -> Chosen
-    requires { (1 ≤ i) × (i < 17) × (length s.now ≡ state_size) }
-    ensures { IsChoice (cells s.now i) result.sum result.head }
+// Rule 1: of a node's arcs the one with the least sum; of equals, the lowest head. Heads 1 to 8 and 9 to 16 side by side, since neither
+// half has to wait for the other.
+pub fn choose(part: &Part) -> Chosen
+    ensures { IsChoice (numbers part.now) result.sum result.head }
 {
-    let mut a = Chosen {
+    let none = Chosen {
         sum: NO_SUM,
         head: 0,
     };
-    let mut b = Chosen {
-        sum: NO_SUM,
-        head: 0,
-    };
-    let mut h: usize = 0;
-    while h < 8 {
-        h += 1;
-        let x = get(s, i, SUMS + h);
-        let y = get(s, i, SUMS + 8 + h);
-        a = lesser(a, x, h);
-        b = lesser(b, y, 8 + h);
+    let mut low = none;
+    let mut high = none;
+    for head in 1..=8 {
+        low = low.lesser(Chosen {
+            sum: part.sums[usize::from(head)],
+            head,
+        });
+        high = high.lesser(Chosen {
+            sum: part.sums[usize::from(8 + head)],
+            head: 8 + head,
+        });
     }
-    lesser(a, b.sum, b.head)
+    low.lesser(high)
 }
 
 // What came of the chosen arc: nothing further, a label, or a length or the end.
-#[derive(Clone, Copy)]
+#[derive(Clone, Copy, Debug, PartialEq, Eq, Hash)]
 pub enum Heard {
     Nothing,
     Label,
     Length,
 }
 
-// Rule 4: the message of code w, on the arc to h of sum x, is heard. A length comes as its rise, which the sum rises by.
-pub fn hear(s: &mut [u8], i: usize, h: usize, x: usize, w: usize) -> Heard
-    requires { (1 ≤ i) × (i < 17) × (h < 17) × (x + (w - label_most) ≤ no_sum) × Rises (cells s.old i) x × Room (cells s.old i) w
-        × (length s.old ≡ state_size) }
-    ensures { Stored (cells s.old) i (hears (cells s.old i) h x w) (cells s.new)
-        × (result ≡ heard_of w) }
+// Rule 4: a message on the chosen arc is heard. A length comes as its rise, which the sum rises by.
+pub fn hear(part: &mut Part, chosen: Chosen, message: u8) -> Heard
+    requires { (chosen.head < table_size) × (chosen.sum + (message - label_most) ≤ no_sum) × Rises (numbers part.old) chosen.sum
+        × Room (numbers part.old) message }
+    ensures { (numbers part.new ≡ hears (numbers part.old) chosen.head chosen.sum message)
+        × (result ≡ heard_of message) }
 {
-    match w {
+    match message {
         0 => {
-            put(s, i, SUMS + h, NO_SUM);
+            part.sums[usize::from(chosen.head)] = NO_SUM;
             Heard::Length
         }
-        1..=16 => {
-            if get(&*s, i, MARKS + w) != 0 {
+        1..=LABELS => {
+            if part.marks[usize::from(message)] != 0 {
                 return Heard::Label;
             }
-            fill(s, i, h, x, w);
+            part.fill(Filled {
+                target: message,
+                distance: chosen.sum,
+                hop: chosen.head,
+            });
             Heard::Label
         }
         _ => {
-            put(s, i, SUMS + h, x + (w - LABELS));
+            part.sums[usize::from(chosen.head)] = chosen.sum + (message - LABELS);
             Heard::Length
         }
     }
 }
 
-// Rules 3 and 4: the next message of the arc to h, of sum x, is taken; or there is none, and the node waits for it.
-pub fn take(s: &mut [u8], i: usize, h: usize, x: usize) -> Heard
-    requires { Able (cells s.old) i h x × (length s.old ≡ state_size) }
-    ensures { Stored (cells s.old) i (takes (cells s.old) i h x) (cells s.new)
-        × (result ≡ took_of (cells s.old) i h) }
+// Rules 3 and 4: the next message of the chosen arc is taken; or there is none, and the node waits for it.
+pub fn take(state: &mut State, node: usize, chosen: Chosen) -> Heard
+    requires { Able (cells state.old) node chosen.head chosen.sum }
+    ensures { Stored (cells state.old) node (takes (cells state.old) node chosen.head chosen.sum) (cells state.new)
+        × (result ≡ took_of (cells state.old) node chosen.head) }
 {
-    let t = get(&*s, i, TAKEN + h);
-    if get(&*s, i, DELIVERED + h) <= t {
-        wait(s, i, x, h);
-        return Heard::Nothing;
+    match state.take(node, usize::from(chosen.head)) {
+        None => {
+            state.parts[node - 1].wait(chosen.sum, chosen.head);
+            Heard::Nothing
+        }
+        Some(message) => hear(&mut state.parts[node - 1], chosen, message),
     }
-    let w = get(&*s, h, MESSAGES + t);
-    count(s, i, TAKEN + h);
-    hear(s, i, h, x, w)
 }
 
-// The work of node i from the arc that is first chosen: choosing and taking, until it must wait or has stopped.
-pub fn work_from(net: &[u8], s: &mut [u8], i: usize, first: Chosen)
-    requires { Laid net.now × Working net.now (cells s.old) i × IsChoice (cells s.old i) first.sum first.head
-        × (length s.old ≡ state_size) }
-    ensures { Worked net.now (cells s.old) i (cells s.new) }
+// The work of a node from the arc that is first chosen: choosing and taking, until it must wait or has stopped. Two loops left by label, as
+// document 01 has it. The network is lent to read and the state to change: a struct of the two references would be taken apart at each
+// use, no plainer.
+pub fn work_from(net: &Network, state: &mut State, node: usize, first: Chosen)
+    requires { Working net.now.layout (cells state.old) node × IsChoice (cells state.old node) first.sum first.head }
+    ensures { Worked net.now.layout (cells state.old) node (cells state.new) }
 {
-    let lmax = net[network::LMAX] as usize;
     let mut chosen = first;
     'choose: loop {
-        if get(&*s, i, LP) + lmax < chosen.sum {
-            stop(s, i);
+        if state.parts[node - 1].lp + net.layout.lmax < chosen.sum {
+            state.parts[node - 1].stop();
             break 'choose;
         }
         'take: loop {
-            let heard = take(s, i, chosen.head, chosen.sum);
+            let heard = take(state, node, chosen);
             match heard {
                 Heard::Nothing => break 'choose,
                 Heard::Label => {}
                 Heard::Length => break 'take,
             }
         }
-        chosen = choose(&*s, i);
+        chosen = choose(&state.parts[node - 1]);
     }
 }
 
-// The work of node i, from the choice of an arc.
-pub fn work(net: &[u8], s: &mut [u8], i: usize)
-    requires { Laid net.now × Working net.now (cells s.old) i × (length s.old ≡ state_size) }
-    ensures { Worked net.now (cells s.old) i (cells s.new) }
+// The work of a node, from the choice of an arc.
+pub fn work(net: &Network, state: &mut State, node: usize)
+    requires { Working net.now.layout (cells state.old) node }
+    ensures { Worked net.now.layout (cells state.old) node (cells state.new) }
 {
-    let first = choose(&*s, i);
-    work_from(net, s, i, first);
+    let first = choose(&state.parts[node - 1]);
+    work_from(net, state, node, first);
 }

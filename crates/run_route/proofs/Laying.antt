@@ -1,23 +1,22 @@
 -- The way as the code writes it: hop by hop into the room.
 use mathlib.Core.Path.{◌≡◌, refl, sym, ap, subst, ◌∙◌}
-use mathlib.Core.Logic.{◌≢◌}
-use mathlib.Core.Bool.{true, false}
+use mathlib.Core.Logic.{◌⊎◌, inl, inr, ◌≢◌}
 use mathlib.Core.List.{List, ◌∷◌}
 use Prim.Native.Nat.{ℕ, ◌+◌, ◌≤◌, ◌<◌}
 use native.Mathlib.Omega.{arith}
 use native.Mathlib.Numerals.{add-one}
-use lib.Dec.{eqb}
 use lib.ListN.{length, set, length-set}
 use lib.Seq.{sets}
-use borrow.Author.Tests.{eqb-true, eqb-false}
 use Rattle.method.specs.Steps.{steps}
-use Rattle.method.specs.Entries.{Entry, unknown, unreachable, known}
-use Rattle.method.specs.Marks.{unknown_mark, unreachable_mark, distance_of}
+use Rattle.method.specs.declared.Entry.{Entry as CodeEntry}
+use Rattle.method.specs.declared.Entry.TheVariants.{Unknown, Unreachable, Known}
+use Rattle.method.specs.Meant.{meant}
+use Rattle.method.specs.Entries.{Entry}
+use Rattle.method.specs.Marks.{distance_of}
 use Rattle.network.specs.Layout.{net_of}
 use Rattle.run_cells.specs.Part.{Part, table_size, state_of}
 use Rattle.run_cells.specs.Caches.{Readable}
 use Rattle.method.specs.Entries.{entry_of}
-use Rattle.run_entries.proofs.Reading.{no_mark}
 use Rattle.method.specs.Route.{distance_to, hop_to, route, passed, way}
 use Rattle.method.specs.Room.{begins}
 use Rattle.method.proofs.Room.{sets_begins}
@@ -34,42 +33,16 @@ module _ (m : ℕ → Part) (i y : ℕ) (q : Asked m i y) where
     q.ran.readable i q.node,
   )
 
-  -- the marks tell what kind of entry it is
-  abbrev e : Entry
-  e = entry_of (state_of m i).node y
+  -- the code's entry says what kind it is
+  module _ (r : CodeEntry) (is : meant r ≡ entry_of (state_of m i).node y) where
+    pub says_filled : (d h : ℕ) → r ≡ Known d h → OnWay m i y
+    says_filled d h e = record { asked = q; distance = d; hop = h; filled = sym is ∙ ap meant e }
 
-  low : (d h : ℕ) → e ≡ known d h → d < unreachable_mark
-  low d h is = no_mark q.net q.bytes m q.counts q.ran i q.accepted q.node y d h is
-
-  -- no node is passed
-  abbrev Stays : List ℕ → Entry → Type 0
-  Stays room x = (0 ≡ length (passed x (route (state_of m) y i))) × (room ≡ begins (passed x (route (state_of m) y i)) room)
-
-  module _ (d : ℕ) (is : d ≡ distance_of e) where
-    module _ (room : List ℕ) where
-      pub says_unknown : eqb d unknown_mark ≡ true → Stays room e
-      says_unknown t = go e refl (sym is ∙ eqb-true d unknown_mark t)
-        where
-          go : (x : Entry) → e ≡ x → distance_of x ≡ unknown_mark → Stays room x
-          go unknown w z = (refl, refl)
-          go unreachable w z = absurd (omega arith)
-          go (known k h) w z = absurd (omega (arith, low k h w))
-
-      pub says_unreachable : eqb d unreachable_mark ≡ true → Stays room e
-      says_unreachable t = go e refl (sym is ∙ eqb-true d unreachable_mark t)
-        where
-          go : (x : Entry) → e ≡ x → distance_of x ≡ unreachable_mark → Stays room x
-          go unknown w z = absurd (omega arith)
-          go unreachable w z = (refl, refl)
-          go (known k h) w z = absurd (omega (arith, low k h w))
-
-    pub says_filled : eqb d unknown_mark ≡ false → eqb d unreachable_mark ≡ false → OnWay m i y
-    says_filled a b = go e refl
-      where
-        go : (x : Entry) → e ≡ x → OnWay m i y
-        go unknown w = absurd (eqb-false d unknown_mark a (is ∙ ap distance_of w))
-        go unreachable w = absurd (eqb-false d unreachable_mark b (is ∙ ap distance_of w))
-        go (known k h) w = record { asked = q; distance = k; hop = h; filled = w }
+    -- no node is passed
+    pub says_none : (room : List ℕ) → (r ≡ Unknown) ⊎ (r ≡ Unreachable)
+        → (0 ≡ length (way (state_of m) y i)) × (room ≡ begins (way (state_of m) y i) room)
+    says_none room (inl e) = rw (sym is ∙ ap meant e) (refl, refl)
+    says_none room (inr e) = rw (sym is ∙ ap meant e) (refl, refl)
 
 module _ (m : ℕ → Part) (i y : ℕ) (w : OnWay m i y) where
   on : On (net_of w.asked.net) w.asked.accepted (steps w.asked.bytes) (state_of m) w.asked.ran.state y i

@@ -5,52 +5,46 @@ ghost use Rattle.std.specs.Prelude.{◌≡◌, [], ◌∷◌, ℕ, ◌+◌, ◌*
 ghost use Rattle.std.proofs.lemmas.List.Edits.{sets};
 ghost use Rattle.method.specs.Network.{IsNode};
 ghost use Rattle.method.specs.Entries.{entry_of};
-ghost use Rattle.method.specs.Marks.{entry_numbers, row_numbers};
-ghost use Rattle.run_cells.specs.Part.{cells, state_size, state_of};
+ghost use Rattle.method.specs.Marks.{distance_of, hop_of, entry_numbers, row_numbers};
+ghost use Rattle.method.specs.Meant.{meant};
+ghost use Rattle.run_cells.specs.Part.{cells, state_of};
 ghost use Rattle.run_cells.specs.Caches.{Readable};
 
-use run_entries::*;
+use method::Entry;
+use run_cells::State;
+use run_entries::entry;
 
 // Hands over one entry: its distance, and its hop right after it.
-fn hand_entry(entries: &mut [u16], place: usize, distance: u16, hop: u16)
+fn hand_entry(entries: &mut [u16], place: usize, entry: Entry)
     requires { place + 1 < length entries.old }
-    ensures { entries.new ≡ sets entries.old place (distance ∷ hop ∷ []) }
+    ensures { entries.new
+        ≡ sets entries.old place (distance_of (meant entry) ∷ hop_of (meant entry) ∷ []) }
 {
-    entries[place] = distance;
-    entries[place + 1] = hop;
+    entries[place] = entry.distance().0;
+    entries[place + 1] = entry.hop();
 }
 
-// Hands over node i's entries for the targets 1 to n, from place `at` on.
-fn hand_row(s: &[u8], entries: &mut [u16], at: usize, n: usize, i: usize)
-    requires { (n ≤ 16) × IsNode n i × Readable (cells s.now i) × (length s.now ≡ state_size) × (at ≤ 512)
-        × (at + 2 * n ≤ length entries.old) }
+// Hands over a node's entries for the targets 1 to `nodes`, from place `at` on. `Readable` is asked for as by
+// `entry` of run_entries, with its reason.
+fn hand_row(state: &State, entries: &mut [u16], at: usize, nodes: usize, node: usize)
+    requires { (nodes ≤ 16) × IsNode nodes node × Readable (cells state.now node) × (at ≤ 512)
+        × (at + 2 * nodes ≤ length entries.old) }
     ensures { entries.new
-        ≡ sets entries.old at (entry_numbers (entry_of (state_of (cells s.now) i).node) n) }
+        ≡ sets entries.old at (entry_numbers (entry_of (state_of (cells state.now) node).node) nodes) }
 {
-    let mut k: usize = 0;
-    while k < n {
-        let place = at + 2 * k;
-        k += 1;
-        hand_entry(
-            entries,
-            place,
-            distance(s, i, k).0,
-            first_hop(s, i, k) as u16,
-        );
+    for k in 0..nodes {
+        hand_entry(entries, at + 2 * k, entry(state, node, k + 1));
     }
 }
 
-// Hands over the entries of the nodes 1 to n, row by row.
-pub fn hand_rows(s: &[u8], entries: &mut [u16], n: usize)
-    requires { (n ≤ 16) × ((j : ℕ) → IsNode n j → Readable (cells s.now j)) × (length s.now ≡ state_size)
-        × (2 * (n * n) ≤ length entries.old) }
+// Hands over the entries of the nodes 1 to `nodes`, row by row.
+pub fn hand_rows(state: &State, entries: &mut [u16], nodes: usize)
+    requires { (nodes ≤ 16) × ((j : ℕ) → IsNode nodes j → Readable (cells state.now j))
+        × (2 * (nodes * nodes) ≤ length entries.old) }
     ensures { entries.new
-        ≡ sets entries.old 0 (row_numbers (λ i. entry_of (state_of (cells s.now) i).node) n n) }
+        ≡ sets entries.old 0 (row_numbers (λ i. entry_of (state_of (cells state.now) i).node) nodes nodes) }
 {
-    let mut i: usize = 0;
-    while i < n {
-        let at = 2 * (i * n);
-        i += 1;
-        hand_row(s, entries, at, n, i);
+    for i in 0..nodes {
+        hand_row(state, entries, 2 * (i * nodes), nodes, i + 1);
     }
 }

@@ -3,7 +3,7 @@ use mathlib.Core.Path.{◌≡◌, refl}
 use mathlib.Core.List.{List, [], ◌∷◌, ◌++◌, map}
 use Prim.Native.Nat.{ℕ}
 use Rattle.bits.specs.Bits.{as_bits, bits_of, number, field}
-use Rattle.refusal.specs.declared.Refusal.{Refusal}
+use Rattle.refusal.specs.Rows.{Refusal}
 use Rattle.refusal.specs.Rows.{refusal, none, first}
 use Rattle.table.specs.File.{one}
 use Rattle.table.specs.Reader.{header_at, record_at, header_rows, field_rows, records_rows, first_one, end_rows, walk, records_in}

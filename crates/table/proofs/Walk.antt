@@ -9,7 +9,7 @@ use lib.Dec.{leb, eqb}
 use borrow.Author.Tests.{lt-leb, le-leb, leb-true, eq-eqb, ne_eqb, eqb-true, ltb-false}
 use Rattle.bits.specs.Bits.{bits_of, field}
 use Rattle.method.specs.Rules.{Filled}
-use Rattle.refusal.specs.declared.Refusal.{Refusal}
+use Rattle.refusal.specs.Rows.{Refusal}
 use Rattle.refusal.specs.Rows.{Row, Clear, first, refused, answer_by}
 use Rattle.refusal.proofs.Rows.{clear, number_clear, after_clear}
 use Rattle.refusal.proofs.Tests.{both}
@@ -55,7 +55,7 @@ module _ (f : Form) (h : Header) (B : List ℕ) (P : List Filled → ℕ → Typ
     (one_more_lem : (seen : List Filled) (p : ℕ) → P seen p → p + record_size f ≤ length B
     → Clear (record_rows f h seen (record_at f seen B p))
     → P (record_at f seen B p ∷ seen) (p + record_size f)) where
-  walk_keeps : (t : ℕ) (seen : List Filled) (p : ℕ) → P seen p → (q : ℕ) × P (walk f h t seen B p) q
+  pub walk_keeps : (t : ℕ) (seen : List Filled) (p : ℕ) → P seen p → (q : ℕ) × P (walk f h t seen B p) q
   unfolding walk
   walk_keeps zero seen p s = (p, s)
   walk_keeps (suc t) seen p s =

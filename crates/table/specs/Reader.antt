@@ -4,7 +4,7 @@ use Rattle.std.specs.Prelude.{eqb, if◌then◌else◌}
 use Rattle.bits.specs.Bits.{bits_of, field}
 use Rattle.method.specs.Rules.{Filled, Phase, started, stopped, has}
 use Rattle.method.specs.Entries.{Entry, known, find, said, last_distance}
-use Rattle.refusal.specs.declared.Refusal.{Refusal}
+use Rattle.refusal.specs.Rows.{Refusal}
 use Rattle.refusal.specs.Rows
 use Rattle.refusal.specs.Rows.{Row, ◌when◌, ◌at◌when◌, first, answer, ask_rows}
 use Rattle.table.specs.File.{Form, header_size, record_size, start_of}

@@ -13,10 +13,6 @@ use Rattle.table.specs.Reader.{header_at, header_rows}
 use Rattle.table.proofs.Walk.{header_sound}
 use Rattle.table_header.specs.HasHeader.{HasHeader}
 
--- a sound header has two bytes
-pub sound_two : (s : List ℕ) → Rows.refused (header_rows one (header_at one (bits_of s)) s) ≡ 0 → 2 ≤ length s
-sound_two s z = (header_sound one (header_at one (bits_of s)) s (clear (header_rows one (header_at one (bits_of s)) s) z)).0
-
 -- the numbers of the header from its fields
 pub header_is : (s : List ℕ) (o m l : ℕ) → Rows.refused (header_rows one (header_at one (bits_of s)) s) ≡ 0 → o ≡ field (bits_of s) 4 4
     → m ≡ field (bits_of s) 8 4 → l ≡ field (bits_of s) 12 4

@@ -1,48 +1,48 @@
--- All entries of a file, by how its records end.
-use mathlib.Core.Path.{◌≡◌, refl, sym, ◌∙◌, ap}
+-- What is read of a file, by its reading: where that is a refusal, and where it is accepted.
+use mathlib.Core.Path.{◌≡◌, sym, ◌∙◌, ap}
 use mathlib.Core.List.{List}
-use mathlib.Core.Bool.{Bool, true, false}
-use mathlib.Core.Option.{none}
+use mathlib.Core.Bool.{Bool}
+use mathlib.Core.Option.{Option, none}
 use Prim.Native.Nat.{ℕ}
+use Rattle.std.specs.Prelude.{Result, Err}
 use Rattle.bits.specs.Bits.{bits_of}
-use Rattle.std.specs.Prelude.{if◌then◌else◌}
-use Rattle.method.specs.Entries.{said}
+use Rattle.method.specs.Entries.{said, find}
 use Rattle.method.specs.Rules.{Filled}
-use Rattle.method.specs.Marks.{distance_of}
-use Rattle.refusal.specs.declared.Refusal.{Refusal}
+use Rattle.refusal.specs.Rows.{Refusal}
 use Rattle.table.specs.File.{one}
-use Rattle.table.specs.Reader.{records_in, phase_of, refused, accepted, reading}
-use Rattle.call.specs.Files.{entries_outcome, table_room}
-use Rattle.table.specs.declared.Ending.{Ending}
-use Rattle.table.specs.declared.Ending.TheVariants.{Unfinished, Marked, Faulty}
-use Rattle.table.specs.declared.Outcome.{Outcome}
+use Rattle.table.specs.Reader.{Reading, refused, accepted, reading, refusal, records_in, phase_of, entry_from, entry_read}
 use Rattle.table.specs.declared.Header.{Header}
+use Rattle.call.specs.Files.{entries_outcome, table_room}
 use Rattle.table_header.specs.HasHeader.{HasHeader}
-use Rattle.table_records.specs.Parts.{ending, concluded}
+use Rattle.table_reader.specs.Code.{answered}
 use Rattle.table_reader.specs.Listing.{all_outcome, all_room}
 use Rattle.table.proofs.Walk.{taken_passed}
-use Rattle.table_records.proofs.SoundHeader.{reading_is}
 use Rattle.table_reader.proofs.Listed.{all_outcome_lem, all_room_lem}
 
-module _ (s : List ℕ) (h : Header) (d : HasHeader s h) (e : Ending) (q : e ≡ ending one h (bits_of s)) where
-  abbrev es : List Filled
-  es = records_in one h (bits_of s)
+-- a refused file gives no entry
+pub none_read : (s : List ℕ) (r : Refusal) (t : ℕ) → reading one s ≡ refused r → refusal r ≡ entry_read one s t
+none_read s r t e = ap (λ (x : Reading). entry_from x t) (sym e)
 
-  concludes : reading one s ≡ concluded h es e
-  concludes = reading_is s h d ∙ ap (concluded h es) (sym q)
+-- an accepted one gives what its records tell
+pub one_read : (s : List ℕ) (h : Header) (m : Bool) (t : ℕ) (o : Option Filled)
+    → reading one s ≡ accepted h (records_in one h (bits_of s)) m → o ≡ find t (records_in one h (bits_of s))
+    → answered h m t o ≡ entry_read one s t
+one_read s h m t o a q = rw (a, q)
 
-  told : (m : Bool) → concluded h es (if m then Marked else Unfinished) ≡ accepted h es m
-  told true = refl
-  told false = refl
+-- a refused one leaves the room as it was
+pub none_stored : (s : List ℕ) (r : Refusal) (room : List ℕ) → reading one s ≡ refused r
+    → (◌≡◌ {A = Result ℕ Refusal} (Err r) (entries_outcome (reading one s) room)) × (room ≡ table_room (reading one s) room)
+none_stored s r room e = (
+  ap (λ (x : Reading). entries_outcome x room) (sym e),
+  ap (λ (x : Reading). table_room x room) (sym e),
+)
 
-  -- accepted: what is stored is what the definition says
-  pub all_read : (m : Bool) → e ≡ (if m then Marked else Unfinished) → (room left : List ℕ) (r : Outcome) → r ≡ all_outcome h.n room
-      → left ≡ all_room h.own h.n (distance_of (said (phase_of m) none)) es room
-      → (r ≡ entries_outcome (reading one s) room) × (left ≡ table_room (reading one s) room)
-  all_read m is room left r eo er =
-      let p = taken_passed one h (bits_of s) in
-      let a : reading one s ≡ accepted h es m = concludes ∙ ap (concluded h es) is ∙ told m in
-      rw a (eo ∙ all_outcome_lem h d.own es p m room, er ∙ all_room_lem h d.own es p m room)
-
-  pub all_refused : (r : Refusal) → e ≡ Faulty r → reading one s ≡ refused r
-  all_refused r is = concludes ∙ ap (concluded h es) is
+-- of an accepted one all is stored that the definition says
+pub all_stored : (s : List ℕ) (h : Header) → HasHeader s h → (m : Bool) → reading one s ≡ accepted h (records_in one h (bits_of s)) m
+    → (room left : List ℕ) (r : Result ℕ Refusal) → r ≡ all_outcome h.n room
+    → left ≡ all_room h.own h.n (said (phase_of m) none) (records_in one h (bits_of s)) room
+    → (r ≡ entries_outcome (reading one s) room) × (left ≡ table_room (reading one s) room)
+all_stored s h d m a room left r eo er =
+    let es = records_in one h (bits_of s) in
+    let p = taken_passed one h (bits_of s) in
+    rw a (eo ∙ all_outcome_lem h d.own es p m room, er ∙ all_room_lem h d.own es p m room)

@@ -1,4 +1,2 @@
-pub mod Found
-pub mod Answering
 pub mod Listed
 pub mod AllRead

@@ -13,7 +13,7 @@ use borrow.Author.Tests.{ne_eqb, eqb-true, eqb-false, ltb-false}
 use Rattle.method.specs.Network.{IsNode}
 use Rattle.method.specs.Rules.{Filled, Phase}
 use Rattle.method.specs.Entries.{Entry, known, find, said}
-use Rattle.method.specs.Marks.{distance_of, hop_of, no_hop}
+use Rattle.method.specs.Marks.{distance_of, hop_of}
 use Rattle.refusal.specs.Rows.{◌when◌, first, answer}
 use Rattle.table.specs.declared.Header.{Header}
 use Rattle.table.specs.Reader.{phase_of, entry_in}
@@ -106,10 +106,10 @@ table_other g y x (suc n) room a b = go (eqb (suc n) y) refl (λ l. table_other 
 
 -- the code's steps: a mark for each, the records, the node itself
 
-absent_table : (x : Entry) (n : ℕ) (room : List ℕ) → hop_of x ≡ no_hop → with_absent (distance_of x) n room ≡ with_table (λ y. x) n room
+absent_table : (x : Entry) (n : ℕ) (room : List ℕ) → with_absent x n room ≡ with_table (λ y. x) n room
 unfolding with_absent
-absent_table x zero room e = refl
-absent_table x (suc n) room e = rw (absent_table x n room e, e)
+absent_table x zero room = refl
+absent_table x (suc n) room = rw (absent_table x n room)
 
 records_table : (h : Header) (ph : Phase) (room : List ℕ) (es : List Filled) → Passed h es
     → with_records es (with_table (λ y. said ph none) h.n room) ≡ with_table (λ y. said ph (find y es)) h.n room
@@ -127,20 +127,17 @@ records_table h ph room (e ∷ es) p =
     same y false = refl
 
 module _ (h : Header) (own : IsNode h.n h.own) (es : List Filled) (p : Passed h es) (m : Bool) (room : List ℕ) where
-  abbrev mark : ℕ
-  mark = distance_of (said (phase_of m) none)
+  -- what a missing record says
+  abbrev absent : Entry
+  absent = said (phase_of m) none
 
   abbrev numbers : List ℕ
   numbers = entry_numbers (entry_in h es m) h.n
 
-  no_hop_lem : (b : Bool) → hop_of (said (phase_of b) none) ≡ no_hop
-  no_hop_lem true = refl
-  no_hop_lem false = refl
-
   all_stored : 2 * h.n ≤ length room
-      → with_entry (with_records es (with_absent mark h.n room)) h.own 0 0 ≡ numbers ++ drop (2 * h.n) room
+      → with_entry (with_records es (with_absent absent h.n room)) h.own 0 0 ≡ numbers ++ drop (2 * h.n) room
   all_stored l =
-      ap (λ (r : List ℕ). with_entry (with_records es r) h.own 0 0) (absent_table (said (phase_of m) none) h.n room (no_hop_lem m))
+      ap (λ (r : List ℕ). with_entry (with_records es r) h.own 0 0) (absent_table absent h.n room)
       ∙ ap (λ (r : List ℕ). with_entry r h.own 0 0) (records_table h (phase_of m) room es p)
       ∙ table_other (λ y. said (phase_of m) (find y es)) h.own (known 0 0) h.n room own.0 own.1
       ∙ table_numbers (entry_in h es m) h.n room l
@@ -148,18 +145,11 @@ module _ (h : Header) (own : IsNode h.n h.own) (es : List Filled) (p : Passed h 
   pub all_outcome_lem : all_outcome h.n room ≡ outcome numbers room
   all_outcome_lem = rw (length_numbers (entry_in h es m) h.n)
 
-  pub all_room_lem : all_room h.own h.n mark es room ≡ room_after numbers room
+  pub all_room_lem : all_room h.own h.n absent es room ≡ room_after numbers room
   all_room_lem = rw (length_numbers (entry_in h es m) h.n) (go (ltb (length room) (2 * h.n)) refl)
     where
       go : (b : Bool) → ltb (length room) (2 * h.n) ≡ b
-          → answer (first (13 when b ∷ [])) (λ r. room) (with_entry (with_records es (with_absent mark h.n room)) h.own 0 0)
+          → answer (first (13 when b ∷ [])) (λ r. room) (with_entry (with_records es (with_absent absent h.n room)) h.own 0 0)
           ≡ answer (first (13 when b ∷ [])) (λ r. room) (numbers ++ drop (2 * h.n) room)
       go true t = refl
       go false t = all_stored (ltb-false (length room) (2 * h.n) t)
-
--- one record more is stored
-pub one_more : {room left : List ℕ} (start : List ℕ) (es : List Filled) (e : Filled)
-    → left ≡ with_entry room e.target e.distance e.hop
-    → room ≡ with_records es start → left ≡ with_records (e ∷ es) start
-unfolding with_records
-one_more start es e q r = q ∙ ap (λ (l : List ℕ). with_entry l e.target e.distance e.hop) r

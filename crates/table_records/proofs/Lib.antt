@@ -4,4 +4,5 @@ pub mod FirstOne
 pub mod Seen
 pub mod Walk
 pub mod Thirteen
-pub mod Loops
+pub mod Steps
+pub mod OneAnswer

@@ -1,7 +1,7 @@
 -- A record of version 1 as the number that its 13 bits make, and what a step over it promises.
-use mathlib.Core.Path.{◌≡◌, refl}
-use mathlib.Core.Logic.{◌≢◌}
-use mathlib.Core.List.{List}
+use mathlib.Core.Path.{◌≡◌, refl, sym, ◌∙◌, ap}
+use mathlib.Core.List.{List, ◌∷◌}
+use Rattle.std.specs.Prelude.{Option, Some, None}
 use mathlib.Core.Bool.{Bool, true, false, cond}
 use Prim.Native.Nat.{ℕ, ◌+◌, ◌-◌, ◌*◌, ◌/◌, ◌%◌, ◌^◌, ◌≤◌, ◌<◌}
 use native.Mathlib.Omega.{arith}
@@ -15,13 +15,14 @@ use Rattle.method.specs.Rules.{Filled}
 use Rattle.method.specs.Entries.{last_distance}
 use Rattle.table.specs.File.{one}
 use Rattle.table.specs.declared.Header.{Header}
-use Rattle.table.specs.Reader.{stands, record_at}
+use Rattle.table.specs.Reader.{stands, record_at, record_rows, records_in, body_rows}
+use Rattle.refusal.specs.Rows.{Refusal, refusal, first}
 use Rattle.table.proofs.Walk.{stands_whole, stands_zero, stands_short, stands_fits}
-use Rattle.table_records.specs.Parts.{bits_standing, FirstWrong}
-use Rattle.table_records.specs.Walk.{is_in, At, AdvancesTo}
+use Rattle.table_records.specs.Parts.{bits_standing, FirstWrong, field_place, refusal_at}
+use Rattle.table_records.specs.Walk.{is_in, At}
 use Rattle.table_records.specs.declared.Cursor.{Cursor}
-use Rattle.table_records.specs.declared.Met.TheVariants.{Record, Wrong}
-use Rattle.table_records.proofs.Walk.{at_wrong, at_next, none_wrong, one_wrong}
+use Rattle.table_records.specs.declared.Field.{Field}
+use Rattle.table_records.proofs.Walk.{at_wrong, at_next, rows_first}
 
 module _ (s : List ℕ) (p : ℕ) where
   abbrev B : List ℕ
@@ -78,9 +79,10 @@ module _ (s : List ℕ) (p : ℕ) where
       go false t q = stands_zero one B p (omega (arith, four_fields (ltb-false (length B) (p + 13) t)))
 
 -- a step over the record whose number is x; field k is the first that the code finds wrong in it
-module _ (s : List ℕ) {h : Header} {c : Cursor} {es : List Filled} (a : At one h (bits_of s) c es) (x k : ℕ)
+module _ (s : List ℕ) {h : Header} {c : Cursor} {es : List Filled} (a : At one h (bits_of s) c es) (x : ℕ) (k : Option Field)
     (ex : x ≡ bits_standing (bits_of s) c.at) (l : 4096 ≤ x)
-    (w : FirstWrong one h (is_in c.seen (x / 256 % 16 + 1)) (eqb c.at 16) (x / 256 % 16 + 1) (x / 16 % 16 + 1) (x % 16) k) where
+    (w : FirstWrong one h (is_in c.seen (x / 256 % 16 + 1)) (x / 256 % 16 + 1) (x / 16 % 16 + 1) (x % 16)
+    (eqb (c.distance + x % 16) 0) k) where
   stood : stands one (bits_of s) c.at ≡ true
   stood = (there s c.at x ex l).0
 
@@ -91,12 +93,20 @@ module _ (s : List ℕ) {h : Header} {c : Cursor} {es : List Filled} (a : At one
   }
   record_is = record_of s c.at x c.distance es (stands_fits one (bits_of s) c.at stood) (there s c.at x ex l).1 a.distance
 
-  pub met_wrong : k ≢ 0 → AdvancesTo one h (bits_of s) c es Wrong
-  met_wrong n =
-      let bad = one_wrong a _ _ _ k (omega arith) record_is w n in
-      (at_wrong a stood bad, stood, rw stood bad)
+  told : first (record_rows one h es (record_at one es (bits_of s) c.at)) ≡ refusal_at one c.at k
+  told = rows_first a _ _ _ k (omega arith) record_is w
 
-  pub met_record : k ≡ 0 → (v : ℕ) → v ≡ 2 ^ (x / 256 % 16 + 1 - 1)
-      → AdvancesTo one h (bits_of s) c es
-      (Record (record { at = c.at + 13; seen = c.seen + v; distance = c.distance + x % 16 }) (x / 256 % 16 + 1) (x / 16 % 16 + 1))
-  met_record z v ev = rw ev (at_next a stood _ _ _ record_is (none_wrong a _ _ _ k (omega arith) record_is w z))
+  pub met_wrong : (wrong : Field) → k ≡ Some wrong
+      → (records_in one h (bits_of s) ≡ es) × (first (body_rows one h (bits_of s)) ≡ refusal 17 (field_place one c.at wrong))
+      × (stands one (bits_of s) c.at ≡ true)
+  met_wrong wrong q =
+      let is : first (record_rows one h es (record_at one es (bits_of s) c.at)) ≡ refusal 17 (field_place one c.at wrong) =
+      told ∙ ap (refusal_at one c.at) q in
+      let e = at_wrong a stood (λ z. omega (arith, sym z ∙ ap (λ (r : Refusal). r.number) is)) in
+      (e.0, e.1 ∙ rw stood is, stood)
+
+  pub met_record : k ≡ None → (v : ℕ) → v ≡ 2 ^ (x / 256 % 16 + 1 - 1)
+      → At one h (bits_of s) (record { at = c.at + 13; seen = c.seen + v; distance = c.distance + x % 16 })
+      (record { target = x / 256 % 16 + 1; distance = c.distance + x % 16; hop = x / 16 % 16 + 1 } ∷ es)
+  met_record q v ev =
+      rw ev (at_next a stood _ _ _ record_is (ap (λ (r : Refusal). r.number) (told ∙ ap (refusal_at one c.at) q)))

@@ -83,3 +83,9 @@ module _ {before room : List ℕ} {k n x : ℕ} {F : List ℕ} where
       go false t =
           let l : n < 16 = leb-false 16 n t in
           pending_as (k + n / 8) (n % 8) F one_byte (omega arith) (omega arith) refl
+
+module _ {before room : List ℕ} {k n x : ℕ} {F : List ℕ} where
+  -- w bits more, of which the whole bytes are stored
+  pub pending_push : (w v : ℕ) → v < 2 ^ w → 8 ≤ n + w → n + w < 24 → k + (n + w) / 8 ≤ length room → Pending before room k n x F
+      → Pending before (flushed room k (n + w) (x * 2 ^ w + v)) (k + (n + w) / 8) ((n + w) % 8) ((x * 2 ^ w + v) % 256) (F ++ as_bits w v)
+  pending_push w v g a b l p = pending_last (omega arith) (pending_flush a b l (pending_more w v g p))

@@ -1,5 +1,5 @@
 -- What the parts of the writer store, as the numbers that they hold.
-use Rattle.std.specs.Prelude.{ℕ, ◌+◌, ◌-◌, ◌*◌, ◌/◌, ◌%◌, ◌^◌, ◌≡◌, Bool, true, false, List, [], ◌∷◌, ◌++◌, set, take, drop, leb, eqb}
+use Rattle.std.specs.Prelude.{ℕ, ◌+◌, ◌-◌, ◌*◌, ◌/◌, ◌%◌, ◌^◌, ◌≡◌, List, [], ◌∷◌, ◌++◌, set, take, drop, leb}
 use Rattle.std.specs.Prelude.{if◌then◌else◌}
 use Rattle.bits.specs.Bits.{as_bits, bits_of}
 use Rattle.method.specs.Rules.{Filled}
@@ -25,8 +25,3 @@ flushed room k n x =
 pub record Pending (before room : List ℕ) (k n x : ℕ) (F : List ℕ) : Type 0 where
   pub bits : bits_of (take k room) ++ as_bits n x ≡ F
   pub rest : drop k room ≡ drop k before
-
--- the room with the file ended at bit p, where the bits of the byte begun are held
-unfoldable pub finished : List ℕ → ℕ → ℕ → Bool → List ℕ
-finished room p held true = flushed room (p / 8) 8 (held * 2 ^ (8 - p % 8))
-finished room p held false = if eqb (p % 8) 0 then room else flushed room (p / 8) 8 (held * 2 ^ (8 - p % 8) + (2 ^ (8 - p % 8) - 1))

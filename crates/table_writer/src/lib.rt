@@ -1,42 +1,29 @@
 // Writing a table file: the bits go into the room by whole bytes, and those of the byte begun are held.
 #![tactic(auto)]
 
-ghost use Rattle.std.specs.Prelude.{◌≡◌, ◌+◌, ◌-◌, ◌*◌, ◌/◌, ◌%◌, ◌≤◌, ◌<◌, min, ◌++◌, length, take};
-ghost use Rattle.bits.specs.Bits.{bits_of};
-ghost use Rattle.table.specs.File.{one, header_of};
+ghost use Rattle.std.specs.Prelude.{◌≡◌, ◌+◌, ◌-◌, ◌*◌, ◌/◌, ◌%◌, ◌^◌, ◌≤◌, ◌<◌, ◌++◌, length, take};
+ghost use Rattle.bits.specs.Bits.{as_bits};
 ghost use Rattle.call.specs.Files.{outcome, room_after};
+ghost use Rattle.table.specs.File.{one, end_bits};
 ghost use Rattle.table.specs.Size.{bytes_for};
-ghost use Rattle.table_writer.specs.Lent.{listed, lent_file};
-ghost use Rattle.table_writer.specs.Code.{three_fields, flushed, Pending, records_bits, finished};
+ghost use Rattle.table.specs.Told.{told_in};
+ghost use Rattle.table_writer.specs.Lent.{newest_first, lent_file};
+ghost use Rattle.table_writer.specs.Code.{three_fields, flushed, records_bits};
 
-use refusal::Refusal;
-use table::Outcome;
+use method::Filled;
+use refusal::{Reason, Refusal};
+use table::Header;
 
-// A record's number in a type that holds what is made of it.
-fn wide(x: u8) -> u32
-    ensures { result ≡ x }
+// How many bytes a file of so many records has, in numbers that cannot get too large: 13 bits are a byte and 5 bits.
+fn size_of(records: &[Filled], stopped: bool) -> usize
+    ensures { result ≡ bytes_for stopped (16 + 13 * length records.now) }
 {
-    x as u32
-}
-
-// The lesser of two.
-fn least(a: usize, b: usize) -> usize
-    ensures { result ≡ min a b }
-{
-    if a < b {
-        return a;
+    let count = records.len();
+    let further = 5 * count;
+    if stopped {
+        return 3 + count + further / 8;
     }
-    b
-}
-
-// a - b, and 0 where b is more.
-fn less(a: u32, b: u32) -> u32
-    ensures { result ≡ a - b }
-{
-    if a < b {
-        return 0;
-    }
-    a - b
+    2 + count + (further + 7) / 8
 }
 
 // A 1 and three fields of 4 bits.
@@ -57,91 +44,95 @@ fn flush(room: &mut [u8], k: usize, n: usize, x: u32)
     }
 }
 
-// Stores the first count records after the header, and gives the bits of the byte begun.
-fn put_records(room: &mut [u8], targets: &[u8], distances: &[u8], hops: &[u8], count: usize) -> u32
-    requires { (16 + 13 * count ≤ 8 * length room.old) × (count ≤ 4294967295) × (count ≤ length targets.now)
-        × (count ≤ length distances.now) × (count ≤ length hops.now) }
-    ensures { (result < 256)
-        × Pending room.old room.new ((16 + 13 * count) / 8) ((16 + 13 * count) % 8) result
-        (bits_of (take 2 room.old) ++ records_bits one
-        (listed targets.now distances.now hops.now count)) }
-{
-    let mut k: usize = 0;
-    let mut before: u32 = 0;
-    let mut held: u32 = 0;
-    while k < count {
-        let p = 16 + 13 * k;
-        let target = less(wide(targets[k]), 1);
-        let hop = less(wide(hops[k]), 1);
-        let distance = wide(distances[k]);
-        let x = held * 8192 + join(target, hop, less(distance, before));
-        flush(room, p / 8, p % 8 + 13, x);
-        held = x % 256;
-        before = distance;
-        k += 1;
-    }
-    held
+// The byte begun: its place in the room, how many bits of it are held, and a number of which these are the last.
+#[derive(Clone, Copy, Debug, PartialEq, Eq, Hash)]
+struct Begun {
+    at: usize,
+    count: usize,
+    held: u32,
+    ghost small: { (count < 8) × (held < 256) },
 }
 
-// Ends the file at bit p: zeros from the end mark on, or ones, to the byte's end.
-fn put_end(room: &mut [u8], p: usize, held: u32, stopped: bool)
-    requires { (held < 256) × (bytes_for stopped p ≤ length room.old) × (p ≤ 1099511627760) }
-    ensures { room.new ≡ finished room.old p held stopped }
-{
-    let unit = bits::power(8 - p % 8);
-    if stopped {
-        flush(room, p / 8, 8, held * unit);
-        return;
+impl Begun {
+    ghost use Rattle.table_writer.specs.Adds.{place, Adds};
+
+    // Adds a value of so many bits, and stores the bytes that are whole then.
+    fn push(&mut self, room: &mut [u8], width: usize, value: u32)
+        requires { (8 ≤ self.old.count + width) × (width ≤ 16) × (value < 2 ^ width) × (place self.old + width ≤ 8 * length room.old) }
+        ensures bits { Adds room.old self.old room.new self.new (as_bits width value) }
+        ensures moved { place self.new ≡ place self.old + width }
+    {
+        let count = self.count + width;
+        let held = self.held * bits::power(width) + value;
+        flush(room, self.at, count, held);
+        *self = Begun {
+            at: self.at + count / 8,
+            count: count % 8,
+            held: held % 256,
+        };
     }
-    if p % 8 != 0 {
-        flush(room, p / 8, 8, held * unit + (unit - 1));
+
+    // Adds records in the order of filling. What is too small to be less 1, or less the distance before, counts as 0.
+    fn push_records(&mut self, room: &mut [u8], records: &[Filled])
+        requires { place self.old + 13 * length records.now ≤ 8 * length room.old }
+        ensures bits { Adds room.old self.old room.new self.new (records_bits one (newest_first records.now)) }
+        ensures moved { place self.new ≡ place self.old + 13 * length records.now }
+    {
+        let mut before = 0;
+        for record in records {
+            let target = record.target.saturating_sub(1);
+            let hop = record.hop.saturating_sub(1);
+            let difference = record.distance.saturating_sub(before);
+            self.push(
+                room,
+                13,
+                join(u32::from(target), u32::from(hop), u32::from(difference)),
+            );
+            before = record.distance;
+        }
+    }
+
+    // Ends the file: zeros from the end mark on, or ones, to the byte's end.
+    fn push_end(&mut self, room: &mut [u8], stopped: bool)
+        requires { bytes_for stopped (place self.old) ≤ length room.old }
+        ensures bits { Adds room.old self.old room.new self.new (end_bits stopped (place self.old)) }
+        ensures moved { place self.new ≡ 8 * bytes_for stopped (place self.old) }
+    {
+        let width = 8 - self.count;
+        if stopped {
+            self.push(room, width, 0);
+        } else if width < 8 {
+            self.push(room, width, bits::power(width) - 1);
+        }
     }
 }
 
-// How many bytes a file has whose records end at bit p.
-fn bytes_for(p: usize, stopped: bool) -> usize
-    requires { p ≤ 1099511627760 }
-    ensures { result ≡ bytes_for stopped p }
-{
-    if stopped {
-        return p / 8 + 1;
-    }
-    (p + 7) / 8
-}
-
-// Writes the file of a node: its first count records in the order of filling, as far as all three lists have them, and the end mark
-// if it has stopped. Refusal 13.
+// Writes the file of a node: its records in the order of filling, and the end mark if it has stopped. Refusal 13.
 pub fn write_file(
-    own: u32,
-    n: u32,
-    lmax: u32,
-    targets: &[u8],
-    distances: &[u8],
-    hops: &[u8],
-    count: u32,
+    header: Header,
+    records: &[Filled],
     stopped: bool,
     room: &mut [u8],
-) -> Outcome
-    ensures { (result ≡ outcome
-        (lent_file (header_of own n lmax) targets.now distances.now hops.now count stopped)
-        room.old) × (room.new ≡ room_after
-        (lent_file (header_of own n lmax) targets.now distances.now hops.now count stopped)
-        room.old) }
+) -> Result<usize, Refusal>
+    ensures { (told_in result ≡ outcome (lent_file header records.now stopped) room.old)
+        × (room.new ≡ room_after (lent_file header records.now stopped) room.old) }
 {
-    let many = least(
-        least(count as usize, targets.len()),
-        least(distances.len(), hops.len()),
-    );
-    let p = 16 + 13 * many;
-    let size = bytes_for(p, stopped);
+    let size = size_of(records, stopped);
     if room.len() < size {
-        return Outcome::Refused(Refusal {
-            number: 13,
-            place: 0,
-        });
+        return Err(Reason::RoomTooShort.into());
     }
-    flush(room, 0, 16, join(less(own, 1), less(n, 1), lmax));
-    let held = put_records(room, targets, distances, hops, many);
-    put_end(room, p, held, stopped);
-    Outcome::Written(size)
+    let mut begun = Begun {
+        at: 0,
+        count: 0,
+        held: 0,
+    };
+    let numbers = join(
+        header.own.saturating_sub(1),
+        header.n.saturating_sub(1),
+        header.lmax,
+    );
+    begun.push(room, 16, numbers);
+    begun.push_records(room, records);
+    begun.push_end(room, stopped);
+    Ok(size)
 }

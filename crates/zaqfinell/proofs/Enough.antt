@@ -14,7 +14,7 @@ use Rattle.bits.proofs.Bytes.{field_below}
 use Rattle.method.specs.Network.{IsNode, Accepted}
 use Rattle.method.specs.Steps.{steps}
 use Rattle.method.specs.Entries.{phase}
-use Rattle.refusal.specs.declared.Refusal.{Refusal}
+use Rattle.refusal.specs.Rows.{Refusal}
 use Rattle.refusal.specs.Rows.{Row, refused, room_rows, ◌else◌, outside}
 use Rattle.refusal.proofs.Rows.{◌next◌, number_clear, rows_else, else_zero}
 use Rattle.refusal.proofs.Tests.{not_outside}
@@ -28,7 +28,7 @@ use Rattle.call.specs.Files.{outcome_refusal, entries_outcome}
 use Rattle.call.specs.Calls.{nodes_of, file_after, write_rows, write_refusal, run_rows, run_refusal, entry_rows, entry_refusal}
 use Rattle.call.specs.Calls.{nodes_passed, route_refusal, pack_rows, pack_refusal}
 use Rattle.call.proofs.Asked.{not_unstarted, route_else}
-use Rattle.call.proofs.Passed.{way_few}
+use Rattle.call.proofs.WayFew.{way_few}
 use Rattle.zaqfinell.specs.Numbers.{of_file, NoneOr}
 use Rattle.zaqfinell.proofs.Refused.{table_refused}
 use Rattle.zaqfinell.proofs.Numbers.{of_file_lem}

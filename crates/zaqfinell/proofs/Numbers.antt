@@ -13,7 +13,7 @@ use Rattle.method.specs.Distinct.{Among}
 use Rattle.method.specs.Network.{Arc}
 use Rattle.method.specs.Rules.{Filled}
 use Rattle.method.specs.Steps.{steps}
-use Rattle.refusal.specs.declared.Refusal.{Refusal}
+use Rattle.refusal.specs.Rows.{Refusal}
 use Rattle.refusal.proofs.Rows.{◌next◌, rows_else}
 use Rattle.refusal.proofs.Tests.{both}
 use Rattle.refusal.specs.Rows.{Row, ◌when◌, refused_by, first, refused, room_rows, ◌else◌, ask_rows}

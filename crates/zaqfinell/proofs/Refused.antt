@@ -8,12 +8,12 @@ use lib.ListN.{length}
 use Rattle.bits.specs.Bits.{bits_of}
 use Rattle.method.specs.Rules.{Filled}
 use Rattle.method.proofs.EntryNumbers.{length_numbers}
-use Rattle.refusal.specs.declared.Refusal.{Refusal}
+use Rattle.refusal.specs.Rows.{Refusal}
 use Rattle.refusal.specs.Rows.{Row, none, first, refused, room_rows, answer_by, answer, ask_rows}
 use Rattle.refusal.proofs.Rows.{clear, clear_none, before_all, after_none}
 use Rattle.table.specs.File.{one}
 use Rattle.table.specs.declared.Header.{Header}
-use Rattle.table.specs.declared.Outcome.TheVariants.{Refused, Written}
+use Rattle.std.proofs.Common.{Ok, Err}
 use Rattle.table.specs.Reader.{Reading, refusal, says, accepted, header_at, records_in, zero_bit, end_of, entry_in, file_rows, reading}
 use Rattle.table.specs.Reader.{entry_from, entry_read, read_rows}
 use Rattle.call.specs.Files.{read_refusal, outcome_refusal, entries_outcome}
@@ -56,4 +56,4 @@ table_refused s room =
     let h : Header = header_at one (bits_of s) in
     let short = room_rows (length room) (2 * h.n) in
     by_file outcome_refusal (λ x. entries_outcome x room) s short (λ r. refl)
-    (λ es m. rw (length_numbers (entry_in h es m) h.n) (by_answer outcome_refusal Refused (Written (2 * h.n)) (λ r. refl) refl short))
+    (λ es m. rw (length_numbers (entry_in h es m) h.n) (by_answer outcome_refusal Err (Ok (2 * h.n)) (λ r. refl) refl short))

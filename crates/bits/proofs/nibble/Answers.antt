@@ -12,4 +12,4 @@ returns c =
     let o = 4 * (a.k % 2) in
     let by : Bytes a.s.now = record { each = λ i. omega (arith, c.type_inv.s i) } in
     let e : 8 * (a.k / 2) + o ≡ 4 * a.k = omega arith in
-    (rw (c.wide.ensures.0, ← e) (sym (field_in_byte a.s.now (a.k / 2) o 4 (4 - o) by (omega arith) (omega arith))), omega arith)
+    (rw (c.from.ensures, ← e) (sym (field_in_byte a.s.now (a.k / 2) o 4 (4 - o) by (omega arith) (omega arith))), omega arith)

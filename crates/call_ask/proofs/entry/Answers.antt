@@ -1,44 +1,44 @@
 -- `entry`: read from what the run has left.
-use native.Mathlib.Omega.{arith}
-use borrow.Author.Rules.{rules}
-use Rattle.run_cells.specs.Part.{cells}
-use Rattle.run_route.specs.Asked.{Asked}
+use mathlib.Core.Path.{sym, ◌∙◌}
+use Rattle.std.proofs.lemmas.Result.{err_from_is_err_and}
 use Rattle.run_route.proofs.Laying.{readable}
-use Rattle.call_ask.proofs.Asking.{taken, asks, hop_low}
-use Rattle.call_ask.proofs.Answered.{entry_refused, entry_answers}
+use Rattle.call_ask.proofs.Asking.{same_refusal, asks, hop_low}
+use Rattle.call_ask.proofs.Answered.{unfound, entry_refused, entry_answers, entry_same}
 use Rattle.call_ask.proofs.entry.Goals as goal
 
-pub returns-then-f-ne0 : goal.returns-then-f-ne0
-returns-then-f-ne0 c net finds =
+pub returns-in_err-net-clause-entry : goal.returns-in_err-net-clause-entry
+returns-in_err-net-clause-entry c net is =
+    let p = err_from_is_err_and c.from_residual.result c.from_residual.ensures.1 in
     let a = c.args in
-    entry_refused a.found a.node a.target _ c.refused_for-f.ensures net finds a.steps.now c.if-f-ne0.true
+    let reason = c.in_err-net.field-0.0 in
+    rw (p.1, p.2)
+    (entry_refused net a.steps.now a.node a.target reason (unfound net reason a.node a.target (rw c.in_err-net.was at is)), tt)
 
-pub run-requires : goal.run-requires
-run-requires c =
-    let a = c.args in (
-      c.requires
-          (taken a.found a.node a.target _ c.refused_for-f.ensures
-          c.if-f-ne0.false),
-      search rules,
+pub returns-in_err-judge-clause-entry : goal.returns-in_err-judge-clause-entry
+returns-in_err-judge-clause-entry c net is =
+    let p = err_from_is_err_and c.from_residual-in_err-judge.result c.from_residual-in_err-judge.ensures.1 in
+    let a = c.args in
+    rw (p.1, p.2) (
+      entry_refused net a.steps.now a.node a.target c.in_err-judge.field-0.0
+          (same_refusal c.in_ok-net.net a.node a.target net (rw c.in_ok-net.was at is) ∙ sym c.in_err-judge.ensures),
+      tt,
     )
 
-pub first_hop-h-requires : goal.first_hop-h-requires
-first_hop-h-requires c =
+pub entry-requires : goal.entry-requires
+entry-requires c =
     let a = c.args in
-    let ready = asks a.found a.node a.target _ c.refused_for-f.ensures c.if-f-ne0.false c.requires a.steps.now _ _ c.run.ensures in
-    let r = readable _ _ _ ready in (r.0, r.1, r.2, r.3, search rules)
+    readable _ a.node a.target (asks c.in_ok-net.net a.node a.target c.in_ok-judge.ensures a.steps.now _ _ c.run.ensures)
 
-pub beside-requires : goal.beside-requires
-beside-requires c =
+pub returns-clause-entry : goal.returns-clause-entry
+returns-clause-entry c net is =
     let a = c.args in
-    let ready = asks a.found a.node a.target _ c.refused_for-f.ensures c.if-f-ne0.false c.requires a.steps.now _ _ c.run.ensures in
-    (ready, omega (arith, hop_low _ _ _ ready, c.first_hop-h.ensures), search rules)
+    let found = rw c.in_ok-net.was at is in (
+      entry_answers net c.in_ok-net.net found a.steps.now a.node a.target c.in_ok-judge.ensures _ _ c.run.ensures _ c.entry.ensures,
+      entry_same net c.in_ok-net.net found a.steps.now a.node a.target c.in_ok-judge.ensures _ _ c.run.ensures _ c.entry.ensures,
+    )
 
-pub returns : goal.returns
-returns c net finds =
+pub returns-clause-short : goal.returns-clause-short
+returns-clause-short c =
     let a = c.args in
-    entry_answers a.found a.node a.target _
-    c.refused_for-f.ensures net finds
-    a.steps.now c.if-f-ne0.false _ _
-    c.run.ensures _ _ c.first_hop-h.ensures
-    c.beside.ensures
+    rw c.entry.ensures
+    (hop_low _ a.node a.target (asks c.in_ok-net.net a.node a.target c.in_ok-judge.ensures a.steps.now _ _ c.run.ensures))

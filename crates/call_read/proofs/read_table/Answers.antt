@@ -1,14 +1,10 @@
--- `read_table`: what the reader answers, as one number.
-use Rattle.call.specs.Files.{outcome_answer}
-use Rattle.call_read.proofs.Read.{table_fits}
-use mathlib.Core.Path.{ap, ◌∙◌}
+-- `read_table`: at most 32 numbers are written.
+use mathlib.Core.Path.{sym}
+use native.Mathlib.Omega.{arith}
+use Rattle.call.proofs.FilesSmall.{numbers_small}
 use Rattle.call_read.proofs.read_table.Goals as goal
 
-pub packed-requires : goal.packed-requires
-packed-requires c =
-    table_fits _ _ _ c.read_entries.ensures.0
-
-pub returns : goal.returns
-returns c =
-    let read = c.read_entries in
-    record { answer = c.packed.ensures ∙ ap outcome_answer read.ensures.0; left = read.ensures.1 }
+pub overflow_cast-count : goal.overflow_cast-count
+overflow_cast-count c =
+    let a = c.args in
+    record { fits = omega (arith, numbers_small a.file.now a.room.now c.in-Ok.count (sym c.in-Ok.ensures.0)) }

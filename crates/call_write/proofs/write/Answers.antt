@@ -1,66 +1,66 @@
 -- `write`: the refusals in order; between 11 and 12 the steps are run.
-use mathlib.Core.Path.{◌≡◌, sym, ◌∙◌}
-use mathlib.Core.Bool.{false}
+use mathlib.Core.Path.{sym, ◌∙◌}
 use native.Mathlib.Omega.{arith}
-use borrow.Author.Rules.{rules}
-use Rattle.method.specs.Network.{IsNode}
-use Rattle.refusal.specs.Rows.{outside}
-use Rattle.network.specs.Layout.{net_of, Laid}
+use Rattle.std.proofs.lemmas.Result.{err_from_is_err_and}
 use Rattle.refusal.proofs.Tests.{inside}
+use Rattle.network.proofs.Laws.{sizes, laid}
 use Rattle.call_write.proofs.Records.{some_entry}
 use Rattle.call_write.proofs.Answered.{has_started, file_fits, refused_answers, outside_answers, unstarted_answers, file_answers}
 use Rattle.call_write.proofs.write.Goals as goal
 
-pub returns-then-found-ne0 : goal.returns-then-found-ne0
-returns-then-found-ne0 c net is = refused_answers net c.args.found is _ _ _ c.if-found-ne0.true
+pub returns-in_err-net : goal.returns-in_err-net
+returns-in_err-net c net is =
+    let p = err_from_is_err_and c.from_residual.result c.from_residual.ensures.1 in
+    rw (p.1, p.2) (refused_answers net c.in_err-net.field-0.0 _ _ _ (rw c.in_err-net.was at is))
 
 pub returns-then-outside : goal.returns-then-outside
 returns-then-outside c net is =
-    outside_answers net c.args.found is _ _ _ c.if-found-ne0.false
-    (sym c.outside.ensures ∙ c.if-outside.true)
+    outside_answers net c.in_ok-net.net (rw c.in_ok-net.was at is) _ _ _ (rw c.from.ensures at (sym c.if-outside.ensures))
 
-pub run-requires : goal.run-requires
-run-requires c =
-    let laid : Laid c.args.found.laid = c.requires c.if-found-ne0.false in
-    (laid, search rules)
+pub is_unstarted-requires : goal.is_unstarted-requires
+is_unstarted-requires c =
+    let s = sizes c.in_ok-net.net in
+    let at = inside c.in_ok-net.net.layout.nodes c.args.node (rw c.from.ensures at (sym c.outside.ensures ∙ c.if-outside.false)) in
+    (omega arith, omega arith)
 
-pub get-requires : goal.get-requires
-get-requires c =
-    let laid : Laid c.args.found.laid = c.requires c.if-found-ne0.false in
-    let within : outside (net_of c.args.found.laid).n c.args.node ≡ false = sym c.outside.ensures ∙ c.if-outside.false in
-    let node_in : IsNode (net_of c.args.found.laid).n c.args.node = inside _ _ within in
-    let at = node_in in
-    let few = laid.accepted.sizes.nodes in
-    (omega arith, omega arith, search rules, search rules)
+pub returns-then-is_unstarted : goal.returns-then-is_unstarted
+returns-then-is_unstarted c net is =
+    unstarted_answers net c.in_ok-net.net (rw c.in_ok-net.was at is) _ c.args.node _
+    (rw c.from.ensures at (sym c.outside.ensures ∙ c.if-outside.false)) _ _ c.run.ensures
+    (sym c.is_unstarted.ensures ∙ c.if-is_unstarted.true)
 
-pub returns-then-get-eq0 : goal.returns-then-get-eq0
-returns-then-get-eq0 c net is =
-    let within : outside (net_of c.args.found.laid).n c.args.node ≡ false = sym c.outside.ensures ∙ c.if-outside.false in
-    unstarted_answers net c.args.found is _ _ _ c.if-found-ne0.false within _ _ c.run.ensures _
-    c.get.ensures.0 c.if-get-eq0.true
+pub put_file-requires-clause-node : goal.put_file-requires-clause-node
+put_file-requires-clause-node c =
+    inside c.in_ok-net.net.layout.nodes c.args.node (rw c.from.ensures at (sym c.outside.ensures ∙ c.if-outside.false))
 
-pub put_file-requires : goal.put_file-requires
-put_file-requires c =
-    let laid : Laid c.args.found.laid = c.requires c.if-found-ne0.false in
-    let within : outside (net_of c.args.found.laid).n c.args.node ≡ false = sym c.outside.ensures ∙ c.if-outside.false in
-    let node_in : IsNode (net_of c.args.found.laid).n c.args.node = inside _ _ within in
-    let a = c.args in
-    let ne = has_started _ _ _ _ c.run.ensures a.node _ c.get.ensures.0 c.if-get-eq0.false in
-    let some = some_entry _ _ _ _ laid c.run.ensures a.node ne in
-    (laid, node_in, some, (c.run.ensures.readable a.node node_in).few, search rules)
+pub put_file-requires-clause-own : goal.put_file-requires-clause-own
+put_file-requires-clause-own c =
+    let g = c.in_ok-net.net.layout in
+    let up = has_started g c.args.steps.now _ _ c.run.ensures c.args.node (sym c.is_unstarted.ensures ∙ c.if-is_unstarted.false) in
+    some_entry g c.args.steps.now _ _ (laid c.in_ok-net.net) c.run.ensures c.args.node up
 
-pub packed-requires : goal.packed-requires
-packed-requires c =
-    let laid : Laid c.args.found.laid = c.requires c.if-found-ne0.false in
-    let within : outside (net_of c.args.found.laid).n c.args.node ≡ false = sym c.outside.ensures ∙ c.if-outside.false in
-    let node_in : IsNode (net_of c.args.found.laid).n c.args.node = inside _ _ within in
-    let a = c.args in
-    file_fits _ _ _ _ c.run.ensures a.node _ c.get.ensures.0 c.if-get-eq0.false laid
-    node_in a.room.now _ c.put_file.ensures.0
+pub put_file-requires-clause-few : goal.put_file-requires-clause-few
+put_file-requires-clause-few c =
+    let at = inside c.in_ok-net.net.layout.nodes c.args.node (rw c.from.ensures at (sym c.outside.ensures ∙ c.if-outside.false)) in
+    (c.run.ensures.readable c.args.node at).few
+
+pub overflow_cast-result : goal.overflow_cast-result
+overflow_cast-result c =
+    let at = inside c.in_ok-net.net.layout.nodes c.args.node (rw c.from.ensures at (sym c.outside.ensures ∙ c.if-outside.false)) in
+    let fits = file_fits c.in_ok-net.net.layout c.args.steps.now _ _ c.run.ensures c.args.node
+    (sym c.is_unstarted.ensures ∙ c.if-is_unstarted.false) (laid c.in_ok-net.net) at c.args.room.now _ c.in_ok-size.ensures.told in
+    record { fits = omega (arith, fits) }
+
+pub returns-in_err-size : goal.returns-in_err-size
+returns-in_err-size c net is =
+    let p = err_from_is_err_and c.from_residual-in_err-size.result c.from_residual-in_err-size.ensures.1 in
+    rw (p.1, p.2)
+    (file_answers net c.in_ok-net.net (rw c.in_ok-net.was at is) _ c.args.node _
+    (rw c.from.ensures at (sym c.outside.ensures ∙ c.if-outside.false)) _ _ c.run.ensures
+    (sym c.is_unstarted.ensures ∙ c.if-is_unstarted.false) _ c.in_err-size.ensures.told _ c.in_err-size.ensures.left)
 
 pub returns : goal.returns
 returns c net is =
-    let within : outside (net_of c.args.found.laid).n c.args.node ≡ false = sym c.outside.ensures ∙ c.if-outside.false in
-    let a = c.args in
-    file_answers net a.found is _ a.node a.room.now c.if-found-ne0.false within _ _ c.run.ensures _
-    c.get.ensures.0 c.if-get-eq0.false _ c.put_file.ensures.0 _ c.packed.ensures _ c.put_file.ensures.1
+    file_answers net c.in_ok-net.net (rw c.in_ok-net.was at is) _ c.args.node _
+    (rw c.from.ensures at (sym c.outside.ensures ∙ c.if-outside.false)) _ _ c.run.ensures
+    (sym c.is_unstarted.ensures ∙ c.if-is_unstarted.false) _ c.in_ok-size.ensures.told _ c.in_ok-size.ensures.left

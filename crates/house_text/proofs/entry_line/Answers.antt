@@ -1,28 +1,24 @@
 -- `entry_line`: the parts of an entry's line, one after the other.
-use lib.ListN.{length-append}
-use Rattle.house_words.proofs.Writing.{both}
-use native.Mathlib.Omega.{arith}
+use Rattle.house_words.proofs.Writing.{front}
+use Rattle.house_words.proofs.Texts.{fits_after, appends_both}
 use Rattle.house_text.proofs.entry_line.Goals as goal
 
-pub number-at-requires : goal.number-at-requires
-number-at-requires c = omega (arith, simp length-append at c.requires.fits)
-
-pub numbered-at-requires : goal.numbered-at-requires
-numbered-at-requires c = omega (arith, simp length-append at c.requires.fits)
-
-pub put-at-requires : goal.put-at-requires
-put-at-requires c =
-    omega (arith, simp length-append at c.requires.fits)
-
-pub distance_hop-at-requires : goal.distance_hop-at-requires
-distance_hop-at-requires c =
-    omega (arith, simp length-append at c.requires.fits)
+pub numbered-requires : goal.numbered-requires
+numbered-requires c = fits_after c.number.ensures (front _ (front _ (front _ c.requires)))
 
 pub put-requires : goal.put-requires
-put-requires c =
-    omega (arith, simp length-append at c.requires.fits)
+put-requires c = fits_after (appends_both c.number.ensures c.numbered.ensures) (front _ (front _ c.requires))
+
+pub distance_hop-requires : goal.distance_hop-requires
+distance_hop-requires c =
+    fits_after (appends_both (appends_both c.number.ensures c.numbered.ensures) c.put.ensures) (front _ c.requires)
+
+pub put-requires-2 : goal.put-requires-2
+put-requires-2 c =
+    let three = appends_both (appends_both c.number.ensures c.numbered.ensures) c.put.ensures in
+    fits_after (appends_both three c.distance_hop.ensures) c.requires
 
 pub returns : goal.returns
 returns c =
-    let three = both (both c.number-at.ensures c.numbered-at.ensures) c.put-at.ensures in
-    both (both three c.distance_hop-at.ensures) c.put.ensures
+    let three = appends_both (appends_both c.number.ensures c.numbered.ensures) c.put.ensures in
+    appends_both (appends_both three c.distance_hop.ensures) c.put-2.ensures

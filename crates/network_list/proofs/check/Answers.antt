@@ -1,29 +1,45 @@
--- `check`: each record in turn, up to the first that is refused.
-use Rattle.std.proofs.Common.{length, ◌≡◌, arith, subst}
-use Rattle.network_list.proofs.ByRecord.{After, after_none, after_one, after_refusal, whole_found}
+-- `check`: what comes before the arcs, then the arcs in one pass.
+use mathlib.Core.Path.{sym}
+use Rattle.std.proofs.lemmas.Result.{err_from_is_err_and}
+use Rattle.network_list.proofs.Whole.{early, refused_arcs, none, means_house, accepted, lengths, sites}
 use Rattle.network_list.proofs.check.Goals as goal
-use Rattle.network_list.proofs.check.Goals.{else-loop-f-test, then-loop-f-test+then-arcs-k}
 
-pub loop-f-init : goal.loop-f-init
-loop-f-init c =
+pub returns-in_err-before_arcs : goal.returns-in_err-before_arcs
+returns-in_err-before_arcs c =
+    let p = err_from_is_err_and c.from_residual.result c.from_residual.ensures.1 in
     let a = c.args in
-    (omega arith, after_none a.n a.lmax a.arcs.now _ _ c.before_arcs-f.ensures c.begin-laid.ensures)
+    record {
+      refused = rw (p.1, p.2) (early a.n a.lmax a.arcs.now c.in_err-before_arcs.field-0.0 c.in_err-before_arcs.ensures.refused);
+      meant = rw p.1 tt;
+    }
 
-pub loop-f-preserved : goal.loop-f-preserved
-loop-f-preserved c =
+pub returns-in_err-lay : goal.returns-in_err-lay
+returns-in_err-lay c =
+    let p = err_from_is_err_and c.from_residual-in_err-lay.result c.from_residual-in_err-lay.ensures.1 in
     let a = c.args in
-    let l = c.loop-f in
-    (omega arith, after_one a.n a.lmax a.arcs.now l.k l.f _ l.laid _ c.if-arcs-k.false l.invariant.1 c.add-f.ensures.0 c.add-f.ensures.1)
+    record {
+      refused = rw (p.1, p.2) (refused_arcs a.n a.lmax a.arcs.now (sym c.in_ok-before_arcs.ensures.refused) c.new-layout.result
+          c.new-layout.ensures c.in_err-lay.field-0.0 c.in_err-lay.ensures.refused);
+      meant = rw p.1 tt;
+    }
+
+pub invariant_of-result : goal.invariant_of-result
+invariant_of-result c =
+    let a = c.args in
+    let h = sym c.in_ok-before_arcs.ensures.refused in
+    let e = c.in_ok-lay.ensures in
+    record {
+      accepted = accepted a.n a.lmax a.arcs.now h c.new-layout.result c.new-layout.ensures e.refused c.lay.new.layout e.laid;
+      lengths = lengths a.n a.lmax a.arcs.now h c.new-layout.result c.new-layout.ensures e.refused c.lay.new.layout e.laid;
+      sites = sites a.n a.lmax a.arcs.now h c.new-layout.result c.new-layout.ensures e.refused c.lay.new.layout e.laid;
+    }
 
 pub returns : goal.returns
 returns c =
     let a = c.args in
-    let l = c.loop-f in
-    let whole : After a.n a.lmax a.arcs.now (length a.arcs.now) l.f l.laid =
-    elim c.loop-f-test.branch [
-      | else-loop-f-test w ↦ after_refusal a.n a.lmax a.arcs.now l.k l.f l.laid l.invariant.1 w.loop-f-test.false
-      | then-loop-f-test+then-arcs-k w ↦
-          let e : l.k ≡ length a.arcs.now = omega arith in
-          subst (λ k. After a.n a.lmax a.arcs.now k l.f l.laid) e l.invariant.1
-    ] in
-    whole_found a.n a.lmax a.arcs.now l.f l.laid whole _ c.finish.ensures.0 c.finish.ensures.1
+    let h = sym c.in_ok-before_arcs.ensures.refused in
+    let e = c.in_ok-lay.ensures in
+    record {
+      refused = none a.n a.lmax a.arcs.now h c.new-layout.result c.new-layout.ensures e.refused c.lay.new.layout e.laid;
+      meant = means_house a.n a.lmax a.arcs.now h c.new-layout.result c.new-layout.ensures e.refused c.lay.new.layout e.laid;
+    }

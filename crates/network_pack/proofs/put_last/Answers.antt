@@ -1,5 +1,5 @@
--- `put_last`: two stores, one behind the other.
-use Rattle.network_list.specs.Given.{given}
+-- `put_last`: two stores, one after the other.
+use Rattle.network.specs.Given.{given}
 use Rattle.network_pack.proofs.Written.{last_stored}
 use Rattle.network_pack.proofs.put_last.Goals as goal
 

@@ -1,6 +1,6 @@
--- `put_pair`: three stores, one behind the other.
+-- `put_pair`: three stores, one after the other.
 use lib.ListN.{length-set}
-use Rattle.network_list.specs.Given.{given}
+use Rattle.network.specs.Given.{given}
 use Rattle.network_pack.proofs.Written.{pair_stored}
 use native.Mathlib.Omega.{arith}
 use Rattle.network_pack.proofs.put_pair.Goals as goal

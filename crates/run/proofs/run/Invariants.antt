@@ -1,17 +1,11 @@
 -- `run`: step by step, what is left of the list gives the rest of the run.
 use Rattle.run.proofs.Running.{SoFar}
 use Rattle.run.specs.Ran.{tallied}
-use Rattle.run_cells.specs.Part.{state_size, cells}
-use lib.ListN.{length}
-use mathlib.Core.Path.{◌≡◌}
-use Prim.Native.Nat.{◌-◌, ◌≤◌}
+use Rattle.run_cells.specs.Part.{cells}
+use Prim.Native.Nat.{◌≤◌}
 use Rattle.run.proofs.run.Given as goal
 
-abbrev pub invariant-loop-k : goal.invariant-loop-k
-invariant-loop-k l =
-    (l.k ≤ length l.steps) × (length l.s ≡ state_size) × SoFar l.net l.steps l.k (cells l.s)
-    (tallied l.c.taken l.c.idle l.c.unknown) × (l.c.taken ≤ l.k) × (l.c.idle ≤ l.k) × (l.c.unknown ≤ l.k)
-
-abbrev pub decreases-loop-k : goal.decreases-loop-k
-decreases-loop-k l =
-    length l.steps - l.k
+abbrev pub invariant-loop-byte : goal.invariant-loop-byte
+invariant-loop-byte l =
+    SoFar l.net.layout l.steps l.byte-index (cells l.state) (tallied l.counts.taken l.counts.idle l.counts.unknown)
+    × (l.counts.taken ≤ l.byte-index) × (l.counts.idle ≤ l.byte-index) × (l.counts.unknown ≤ l.byte-index)

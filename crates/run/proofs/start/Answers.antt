@@ -1,66 +1,38 @@
 -- `start`: idle, or begun and worked.
-use Rattle.run.proofs.Rested.{i_node}
-use Rattle.run.proofs.Acting.{started_already, blank_sent, blank_table, start_working, started_now}
-use Rattle.run_cells.specs.Part.{phase_at, cells}
-use mathlib.Core.Path.{◌≡◌, ◌∙◌, sym}
 use native.Mathlib.Omega.{arith}
-use borrow.Author.Rules.{rules}
+use Rattle.run_cells.specs.Part.{cells}
+use Rattle.run.proofs.Starting.{low, idle_there, room, at_work, started_there}
 use Rattle.run.proofs.start.Goals as goal
 
-pub get-requires : goal.get-requires
-get-requires c =
+pub bounds : goal.bounds
+bounds c =
     let a = c.args in
-    let p = c.requires in (
-      (i_node a.net.now p.0 (cells a.s.now) p.1 a.i p.2).0,
-      (i_node a.net.now p.0 (cells a.s.now) p.1
-          a.i p.2).1,
-      omega arith,
-      p.3,
-    )
+    omega (arith, low a.net.now a.state.now c.requires.0 c.from-number.result a.node c.from-number.ensures c.requires.1)
 
-pub returns-then-get-ne0 : goal.returns-then-get-ne0
-returns-then-get-ne0 c =
+pub bounds-state-number : goal.bounds-state-number
+bounds-state-number c =
     let a = c.args in
-    let p = c.requires in
-    started_already a.net.now p.0 (cells a.s.now) p.1 a.i p.2 (λ q. c.if-get-ne0.true (c.get.ensures.0 ∙ q))
+    omega (arith, low a.net.now a.state.now c.requires.0 c.from-number.result a.node c.from-number.ensures c.requires.1)
 
 pub begin-requires : goal.begin-requires
 begin-requires c =
     let a = c.args in
-    let p = c.requires in
-    let get = c.get in
-    let m = cells a.s.now in
-    let z : m a.i phase_at ≡ 0 = sym get.ensures.0 ∙ c.if-get-ne0.false in (
-      (i_node a.net.now p.0 m p.1 a.i p.2).0,
-      (i_node a.net.now p.0 m p.1 a.i p.2).1,
-      omega (arith, blank_sent a.net.now p.0 m p.1 a.i p.2 z),
-      omega (
-        arith,
-        blank_table a.net.now p.0 m p.1 a.i p.2 z,
-      ),
-      p.3,
-    )
+    room a.net.now a.state.now c.requires.0 c.from-number.result a.node c.from-number.ensures c.requires.1 (omega arith) c.in-Unstarted.is
 
 pub work-requires : goal.work-requires
 work-requires c =
     let a = c.args in
-    let p = c.requires in
-    let get = c.get in
-    let if1 = c.if-get-ne0 in
-    let begin = c.begin in
-    let m = cells a.s.now in
-    let z : m a.i phase_at ≡ 0 = sym get.ensures.0 ∙ if1.false in
-    (p.0, start_working a.net.now p.0 m p.1 a.i p.2 z (cells begin.new.s) begin.ensures, search rules)
+    at_work a.net.now a.state.now c.requires.0 c.from-number.result a.node c.from-number.ensures c.requires.1 (omega arith)
+    c.in-Unstarted.is c.begin.new.self c.begin.ensures
 
-pub returns : goal.returns
-returns c =
+pub returns-in-Started : goal.returns-in-Started
+returns-in-Started c =
     let a = c.args in
-    let p = c.requires in
-    let get = c.get in
-    let if1 = c.if-get-ne0 in
-    let begin = c.begin in
-    let work = c.work in
-    let m = cells a.s.now in
-    let z : m a.i phase_at ≡ 0 = sym get.ensures.0 ∙ if1.false in
-    started_now a.net.now p.0 m p.1 a.i p.2 z (cells begin.new.s) begin.ensures (cells work.new.s)
-    work.ensures
+    idle_there a.net.now a.state.now c.requires.0 c.from-number.result a.node c.from-number.ensures c.requires.1 (omega arith)
+    c.in-Started.is
+
+pub returns-in-Unstarted : goal.returns-in-Unstarted
+returns-in-Unstarted c =
+    let a = c.args in
+    started_there a.net.now a.state.now c.requires.0 c.from-number.result a.node c.from-number.ensures c.requires.1 (omega arith)
+    c.in-Unstarted.is c.begin.new.self c.begin.ensures (cells c.work.new.state) c.work.ensures

@@ -1,44 +1,53 @@
 -- `choose`: head by head the least so far of each half, then the lesser of both.
-use Rattle.run_node.proofs.Halves.{arc_to, after, least_suc, after_suc, halves, lesser_is}
-use Rattle.run_node.specs.Rules.{least}
-use Rattle.run_cells.specs.Part.{Part, sums_at, cells}
-use mathlib.Core.Path.{◌≡◌, ◌∙◌, ap, refl}
-use Prim.Native.Nat.{ℕ, ◌+◌}
+use mathlib.Core.Path.{◌≡◌, ◌∙◌, sym, ap, ap₂, refl}
+use Prim.Native.Nat.{ℕ, ◌+◌, ◌-◌, ◌≤◌}
+use lib.ListN.{get_or}
 use native.Mathlib.Omega.{arith}
+use Rattle.method.specs.Rules.{Choice}
+use Rattle.run_cells.specs.Part.{Part, sums_at, numbers}
+use Rattle.run_cells.proofs.Loads.{sum_is}
+use Rattle.run_node.specs.declared.Chosen.{Chosen}
+use Rattle.run_node.specs.Rules.{least}
+use Rattle.run_node.proofs.Halves.{arc_to, picked, after, least_suc, after_suc, halves, lesser_is}
 use Rattle.run_node.proofs.choose.Goals as goal
 
-pub loop-h-init : goal.loop-h-init
+pub loop-head-init : goal.loop-head-init
 unfolding least after
-loop-h-init c = (omega arith, refl, refl, refl, refl)
+loop-head-init c = (refl, refl)
 
-pub loop-h-preserved : goal.loop-h-preserved
-loop-h-preserved c =
-    let args = c.args in
-    let l = c.loop-h in
-    let x = c.get-x in
-    let y = c.get-y in
-    let f : Part = cells args.s.now args.i in
-    let k = l.h + 1 in
-    let e : sums_at + 8 + k ≡ sums_at + (8 + k) = omega arith in
-    let p = lesser_is (least f l.h) (arc_to f k) (least f k) l.a.sum l.a.head x.result k l.invariant.1 l.invariant.2
-    x.ensures.0 refl (least_suc f l.h) in
-    let q = lesser_is (after f 8 l.h) (arc_to f (8 + k)) (after f 8 k) l.b.sum l.b.head y.result (8 + k) l.invariant.3
-    l.invariant.4 (y.ensures.0 ∙ ap f e) refl (after_suc f 8 l.h) in (
-      omega arith,
-      c.lesser-a.ensures.0 ∙ p.0,
-      c.lesser-a.ensures.1 ∙ p.1,
-      c.lesser-b.ensures.0
-          ∙ q.0,
-      c.lesser-b.ensures.1 ∙ q.1,
+pub loop-head-preserved : goal.loop-head-preserved
+loop-head-preserved c =
+    let p = c.args.part.now in
+    let l = c.loop-head in
+    let f : Part = numbers p in
+    let h = l.head in
+    let low : h ≤ 8 = omega arith in
+    let k = h - 1 in
+    let up : k + 1 ≡ h = omega arith in
+    let again : k + 1 ≡ h + 1 - 1 = omega arith in
+    let x : Chosen = record { sum = get_or p.sums c.from.result 0; head = h } in
+    let y : Chosen = record { sum = get_or p.sums c.from-in-loop-head.result 0; head = 8 + h } in
+    let ex : picked x ≡ arc_to f (k + 1) =
+    ap₂ (λ (s n : ℕ). record { sum = s; head = n })
+    (ap (λ (n : ℕ). get_or p.sums n 0) c.from.ensures ∙ sym (sum_is p h (omega arith)) ∙ ap (λ (n : ℕ). f (sums_at + n)) (sym up))
+    (sym up) in
+    let ey : picked y ≡ arc_to f (8 + (k + 1)) =
+    ap₂ (λ (s n : ℕ). record { sum = s; head = n })
+    (ap (λ (n : ℕ). get_or p.sums n 0) c.from-in-loop-head.ensures ∙ sym (sum_is p (8 + h) (omega arith))
+    ∙ ap (λ (n : ℕ). f (sums_at + (8 + n))) (sym up)) (ap (λ (n : ℕ). 8 + n) (sym up)) in (
+      ap picked c.lesser-low.ensures ∙ lesser_is (least f k) (arc_to f (k + 1)) l.low x l.invariant.0 ex ∙ sym (least_suc f k)
+          ∙ ap (least f) again,
+      ap picked c.lesser-high.ensures ∙ lesser_is (after f 8 k) (arc_to f (8 + (k + 1))) l.high y l.invariant.1 ey ∙ sym (after_suc f 8 k)
+          ∙ ap (after f 8) again,
     )
 
 pub returns : goal.returns
 returns c =
-    let args = c.args in
-    let l = c.loop-h in
-    let f : Part = cells args.s.now args.i in
-    let e : l.h ≡ 8 = omega arith in
-    let q = lesser_is (least f 8) (after f 8 8) (least f 16) l.a.sum l.a.head l.b.sum l.b.head
-    (l.invariant.1 ∙ ap (λ (k : ℕ). (least f k).sum) e) (l.invariant.2 ∙ ap (λ (k : ℕ). (least f k).head) e)
-    (l.invariant.3 ∙ ap (λ (k : ℕ). (after f 8 k).sum) e) (l.invariant.4 ∙ ap (λ (k : ℕ). (after f 8 k).head) e) (halves f 8 8) in
-    (c.lesser.ensures.0 ∙ q.0, c.lesser.ensures.1 ∙ q.1)
+    let l = c.loop-head in
+    let f : Part = numbers c.args.part.now in
+    let e : l.head - 1 ≡ 8 = omega arith in
+    let q : picked c.lesser.result ≡ least f 16 =
+    ap picked c.lesser.ensures
+    ∙ lesser_is (least f 8) (after f 8 8) l.low l.high (l.invariant.0 ∙ ap (least f) e) (l.invariant.1 ∙ ap (after f 8) e)
+    ∙ sym (halves f 8 8) in
+    (ap (λ (p : Choice). p.sum) q, ap (λ (p : Choice). p.head) q)

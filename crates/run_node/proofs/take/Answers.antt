@@ -1,80 +1,65 @@
 -- `take`: waiting, or one message.
-use Rattle.run_node.proofs.Coded.{takes_nothing, takes_one, room_after_lem, rises_after, next_is}
-use Rattle.run_cells.specs.Part.{cells}
+use mathlib.Core.Path.{sym, ap, subst, ◌∙◌}
+use Prim.Native.Nat.{◌-◌}
+use lib.ListN.{get_or}
 use native.Mathlib.Omega.{arith}
-use borrow.Author.Rules.{rules}
+use Rattle.run_cells.specs.Part.{Part, sent_count, cells}
+use Rattle.run_cells.specs.Stores.{Rises, waited}
+use Rattle.run_cells.proofs.Loads.{sent_is}
+use Rattle.run_cells.proofs.Stored.{blank, own_part, store_own, named}
+use Rattle.run_node.specs.Rules.{hears, Room}
+use Rattle.run_node.proofs.Coded.{takes_nothing, takes_one, same_without, room_after_lem, rises_after, sum_after}
 use Rattle.run_node.proofs.take.Goals as goal
-
-pub get-t-requires : goal.get-t-requires
-get-t-requires c =
-    let p = c.requires in
-    (p.0.own.0, p.0.own.1, omega (arith, p.0.head.1), p.1)
-
-pub get-requires : goal.get-requires
-get-requires c =
-    let p = c.requires in
-    (p.0.own.0, p.0.own.1, omega (arith, p.0.head.1), p.1)
 
 pub wait-requires : goal.wait-requires
 wait-requires c =
-    let p = c.requires in
-    (p.0.own.0, p.0.own.1, p.0.rises, p.0.head.1, p.0.sent, p.1)
-
-pub returns-then-get-t : goal.returns-then-get-t
-returns-then-get-t c =
     let a = c.args in
-    let get = c.get-t in
-    let get2 = c.get in
-    let wait = c.wait in
-    takes_nothing (cells a.s.now) a.i a.h a.x get2.result get.result get2.ensures.0 get.ensures.0 (cells
-    wait.new.s) (omega arith) wait.ensures
-
-pub get-w-requires : goal.get-w-requires
-get-w-requires c =
-    let p = c.requires in
-    let get = c.get-t in
-    let get2 = c.get in
-    (p.0.head.0, p.0.head.1, omega (arith, p.0.within (omega (arith, get.ensures.0, get2.ensures.0)), get.ensures.0), p.1)
-
-pub count-requires : goal.count-requires
-count-requires c =
-    let p = c.requires in
-    let get = c.get-t in
-    let get2 = c.get in
-    (p.0.own.0, p.0.own.1, omega (arith, p.0.head.1), omega (arith, get.ensures.0, get2.ensures.0, get2.ensures.1), p.1)
+    let b = c.requires in
+    let r = c.take.new.self in
+    let own = own_part r a.node blank (omega (arith, b.own)) (omega (arith, b.own)) in
+    let same = same_without (cells a.state.now) a.node a.chosen.head a.chosen.sum (cells r) (rw c.from.ensures at c.in-None.ensures.1)
+    (rw c.from.ensures at c.in-None.ensures.0) in (
+      subst (λ (f : Part). Rises f a.chosen.sum) (sym same ∙ own) b.rises,
+      omega (arith, b.sent, ap (λ (f : Part). f sent_count) (sym same ∙ own), sent_is (get_or r.parts (a.node - 1) blank)),
+    )
 
 pub hear-requires : goal.hear-requires
 hear-requires c =
     let a = c.args in
-    let p = c.requires in
-    let get = c.get-t in
-    let get2 = c.get in
-    let get3 = c.get-w in
-    let count = c.count in
-    let b = p.0 in
-    let m = cells a.s.now in
-    let n = cells count.new.s in
-    let e = next_is m a.i a.h a.x get2.result get.result get2.ensures.0 get.ensures.0 (omega arith) n
-    get3.result get3.ensures.0 in (
-      b.own.0,
-      b.own.1,
+    let b = c.requires in
+    let r = c.take.new.self in
+    let m = cells a.state.now in
+    let own = own_part r a.node blank (omega (arith, b.own)) (omega (arith, b.own)) in
+    let stored = rw c.from.ensures at c.in-Some.ensures.1 in
+    let some = rw c.from.ensures at c.in-Some.ensures.0 in
+    let w = c.in-Some.message in (
       b.head.1,
-      omega (arith, b.sum (omega (arith, get.ensures.0, get2.ensures.0)), e),
-      rises_after m a.i a.h a.x get2.result get.result get2.ensures.0 get.ensures.0 (omega arith) n
-          get3.result get3.ensures.0 count.ensures b,
-      room_after_lem m a.i a.h a.x get2.result get.result get2.ensures.0 get.ensures.0 (omega arith) n
-          get3.result get3.ensures.0 count.ensures b,
-      search rules,
+      sum_after m a.node a.chosen.head a.chosen.sum (cells r) stored w some b,
+      subst (λ (f : Part). Rises f a.chosen.sum) own (rises_after m a.node a.chosen.head a.chosen.sum (cells r) stored w some b),
+      subst (λ (f : Part). Room f w) own (room_after_lem m a.node a.chosen.head a.chosen.sum (cells r) stored w some b),
     )
 
-pub returns : goal.returns
-returns c =
+pub returns-in-None : goal.returns-in-None
+returns-in-None c =
     let a = c.args in
-    let get = c.get-t in
-    let get2 = c.get in
-    let get3 = c.get-w in
-    let count = c.count in
-    let hear = c.hear in
-    let m = cells a.s.now in
-    takes_one m a.i a.h a.x get2.result get.result get2.ensures.0 get.ensures.0 (omega arith) (cells
-    count.new.s) get3.result get3.ensures.0 count.ensures (cells hear.new.s) hear.result hear.ensures
+    let b = c.requires in
+    let r = c.take.new.self in
+    let own = own_part r a.node blank (omega (arith, b.own)) (omega (arith, b.own)) in
+    takes_nothing (cells a.state.now) a.node a.chosen.head a.chosen.sum (cells r)
+    (rw c.from.ensures at c.in-None.ensures.1) _ (rw c.from.ensures at c.in-None.ensures.0)
+    (named (c.wait.ensures ∙ ap (λ (f : Part). waited f a.chosen.sum a.chosen.head) (sym own))
+    (store_own r a.node c.wait.new.self (omega (arith, b.own)) (omega (arith, b.own))))
+
+pub returns-in-Some : goal.returns-in-Some
+returns-in-Some c =
+    let a = c.args in
+    let b = c.requires in
+    let r = c.take.new.self in
+    let w = c.in-Some.message in
+    let own = own_part r a.node blank (omega (arith, b.own)) (omega (arith, b.own)) in
+    takes_one (cells a.state.now) a.node a.chosen.head a.chosen.sum (cells r)
+    (rw c.from.ensures at c.in-Some.ensures.1) w (rw c.from.ensures at c.in-Some.ensures.0) _ c.hear.result (
+      named (c.hear.ensures.0 ∙ ap (λ (f : Part). hears f a.chosen.head a.chosen.sum w) (sym own))
+          (store_own r a.node c.hear.new.part (omega (arith, b.own)) (omega (arith, b.own))),
+      c.hear.ensures.1,
+    )

@@ -1,168 +1,139 @@
 -- `work_from`: both loops keep that the work from here on is the work from the start; the outer one also, that the arc is rule 1's.
-use Rattle.run_node.proofs.Limits.{i_node, sent_low}
-use Rattle.run_node.proofs.Loops.{going_refl, going_trans, going_worked, going_working, chosen, stopped_there}
-use Rattle.run_node.proofs.Loops.{able_there, waited_there, again₃, again₁}
-use Rattle.run_cells.specs.Part.{cells}
-use mathlib.Core.Path.{◌∙◌, sym, refl}
+use Rattle.network.proofs.Laws.{laid}
+use Rattle.method.specs.Rules.{Choice}
+use Rattle.run_node.proofs.Limits.{sent_low, lp_low}
+use Rattle.run_node.proofs.Loops.{going_trans, going_worked, going_working, chosen, stopped_there}
+use Rattle.run_node.proofs.Loops.{able_there, waited_there, again₃, again₁, number_low, lp_of}
+use Rattle.run_node.specs.Rules.{least}
+use Rattle.run_cells.specs.Part.{Part, sent_count, cells}
+use Rattle.run_cells.specs.Stores.{stopped_part}
+use Rattle.run_cells.proofs.Loads.{sent_is}
+use Rattle.run_cells.proofs.Stored.{blank, own_part, store_own, named}
+use mathlib.Core.Path.{◌∙◌, sym, ap, refl}
+use lib.ListN.{get_or}
+use Prim.Native.Nat.{◌-◌}
 use native.Mathlib.Omega.{arith}
 use Rattle.run_node.proofs.work_from.Goals as goal
 
-pub overflow_cast-lmax : goal.overflow_cast-lmax
-overflow_cast-lmax c =
-    omega (arith, c.type_inv.net 1)
+pub offset_bounds-state-node : goal.offset_bounds-state-node
+offset_bounds-state-node c = omega (arith, number_low c.args.net.now c.requires.0)
 
-pub choose-init : goal.choose-init
-choose-init c =
-    let a = c.args in
-    let p = c.requires in
-    (p.3, going_refl a.net.now a.i (cells a.s.now), p.2)
+pub bounds-state-node : goal.bounds-state-node
+bounds-state-node c = omega (arith, number_low c.args.net.now c.requires.0)
 
-pub get-requires : goal.get-requires
-get-requires c =
+pub overflow_add-state : goal.overflow_add-state
+overflow_add-state c =
     let a = c.args in
-    let p = c.requires in
-    let choose = c.choose in
-    let at = i_node a.net.now p.0 p.1.0 (cells a.s.now) a.i p.1.1 in
-    (at.0, at.1, omega arith, choose.invariant.0)
+    let s = c.choose.state in
+    let low = number_low a.net.now c.requires.0 in
+    let w = going_working c.choose.invariant.0 c.requires.0 in
+    omega (
+      arith,
+      lp_of s a.node low.0 (omega (arith, low)),
+      lp_low a.net.now.layout (laid a.net.now) w.0 (cells s) a.node w.1,
+    )
+
+pub offset_bounds-state-node-then-state-node : goal.offset_bounds-state-node-then-state-node
+offset_bounds-state-node-then-state-node c = omega (arith, number_low c.args.net.now c.requires.0)
+
+pub bounds-state-node-then-state-node : goal.bounds-state-node-then-state-node
+bounds-state-node-then-state-node c = omega (arith, number_low c.args.net.now c.requires.0)
 
 pub stop-requires : goal.stop-requires
 stop-requires c =
     let a = c.args in
-    let p = c.requires in
-    let choose = c.choose in
-    let w = going_working choose.invariant.1 p.1 in
-    let at = i_node a.net.now p.0 w.0 (cells choose.s) a.i w.1 in (
-      at.0,
-      at.1,
-      sent_low a.net.now p.0 w.0 (cells choose.s) a.i w.1,
-      choose.invariant.0,
+    let s = c.choose.state in
+    let low = number_low a.net.now c.requires.0 in
+    let w = going_working c.choose.invariant.0 c.requires.0 in
+    omega (
+      arith,
+      sent_low a.net.now.layout (laid a.net.now) w.0 (cells s) a.node w.1,
+      ap (λ (f : Part). f sent_count) (own_part s a.node blank low.0 (omega (arith, low))),
+      sent_is (get_or s.parts (a.node - 1) blank),
     )
 
 pub take-init : goal.take-init
 take-init c =
     let a = c.args in
-    let p = c.requires in
     let choose = c.choose in
-    let get = c.get in (
-      choose.invariant.0,
-      chosen a.net.now p.0 a.i (cells choose.s) choose.chosen.sum choose.chosen.head get.result _
-          choose.invariant.2 get.ensures.0 refl (omega arith),
-    )
+    let low = number_low a.net.now c.requires.0 in
+    chosen a.net.now.layout (laid a.net.now) a.node (cells choose.state) choose.chosen.sum choose.chosen.head _ _ choose.invariant.1
+    (lp_of choose.state a.node low.0 (omega (arith, low))) refl (omega arith)
 
 pub take-heard-requires : goal.take-heard-requires
 take-heard-requires c =
     let a = c.args in
-    let p = c.requires in
     let choose = c.choose in
-    let take = c.take in (
-      able_there a.net.now p.0 a.i (cells choose.s) (cells take.s) choose.chosen.sum choose.chosen.head
-          take.invariant.1
-          (going_working choose.invariant.1 p.1),
-      take.invariant.0,
-    )
+    let take = c.take in
+    able_there a.net.now.layout (laid a.net.now) a.node (cells choose.state) (cells take.state) choose.chosen.sum choose.chosen.head
+    take.invariant (going_working choose.invariant.0 c.requires.0)
 
 pub take-smaller : goal.take-smaller
 take-smaller c =
     let a = c.args in
-    let p = c.requires
-    in
     let choose = c.choose in
     let take = c.take in
-    let take2 = c.take-heard in
-    (again₃ a.net.now p.0 a.i (cells choose.s) (cells take.s) choose.chosen.sum choose.chosen.head take.invariant.1
-    (cells
-    take2.new.s) take2.result take2.ensures c.in-Label.is (going_working choose.invariant.1 p.1)).1
+    let heard = c.take-heard in
+    (again₃ a.net.now.layout (laid a.net.now) a.node (cells choose.state) (cells take.state) choose.chosen.sum choose.chosen.head
+    take.invariant (cells heard.new.state) heard.result heard.ensures c.in-Label.is (going_working choose.invariant.0 c.requires.0)).1
 
 pub take-preserved : goal.take-preserved
 take-preserved c =
     let a = c.args in
-    let p = c.requires
-    in
     let choose = c.choose in
     let take = c.take in
-    let take2 = c.take-heard in (
-      take2.auto.s ∙ take.invariant.0,
-      (again₃ a.net.now p.0 a.i (cells choose.s) (cells take.s) choose.chosen.sum choose.chosen.head take.invariant.1
-          (cells
-          take2.new.s) take2.result take2.ensures c.in-Label.is (going_working choose.invariant.1 p.1)).0,
-    )
+    let heard = c.take-heard in
+    (again₃ a.net.now.layout (laid a.net.now) a.node (cells choose.state) (cells take.state) choose.chosen.sum choose.chosen.head
+    take.invariant (cells heard.new.state) heard.result heard.ensures c.in-Label.is (going_working choose.invariant.0 c.requires.0)).0
 
-pub choose-chosen-requires : goal.choose-chosen-requires
-choose-chosen-requires c =
-    let a = c.args in
-    let p = c.requires in
-    let take = c.take in
-    let take2 = c.take-heard in
-    let at = i_node a.net.now p.0 p.1.0 (cells a.s.now) a.i p.1.1 in (
-      at.0,
-      at.1,
-      take2.auto.s ∙ take.invariant.0,
-    )
+pub offset_bounds-state-node-in-choose : goal.offset_bounds-state-node-in-choose
+offset_bounds-state-node-in-choose c = omega (arith, number_low c.args.net.now c.requires.0)
+
+pub bounds-state-node-in-choose : goal.bounds-state-node-in-choose
+bounds-state-node-in-choose c = omega (arith, number_low c.args.net.now c.requires.0)
 
 pub choose-smaller : goal.choose-smaller
 choose-smaller c =
     let a = c.args in
-    let p = c.requires in
     let choose = c.choose in
     let take = c.take in
-    let take2 = c.take-heard in
-    (again₁ a.net.now p.0 a.i (cells choose.s) (cells take.s) choose.chosen.sum choose.chosen.head take.invariant.1
-    (cells
-    take2.new.s) take2.result take2.ensures c.in-Length.is
-    (going_working choose.invariant.1 p.1)).1
+    let heard = c.take-heard in
+    (again₁ a.net.now.layout (laid a.net.now) a.node (cells choose.state) (cells take.state) choose.chosen.sum choose.chosen.head
+    take.invariant (cells heard.new.state) heard.result heard.ensures c.in-Length.is (going_working choose.invariant.0 c.requires.0)).1
 
 pub choose-preserved : goal.choose-preserved
 choose-preserved c =
     let a = c.args in
-    let p = c.requires in
     let choose = c.choose in
     let take = c.take in
-    let take2 = c.take-heard in
-    let choose2 = c.choose-chosen in (
-      take2.auto.s ∙ take.invariant.0,
-      going_trans choose.invariant.1
-          (again₁ a.net.now p.0 a.i (cells choose.s) (cells take.s) choose.chosen.sum choose.chosen.head
-          take.invariant.1 (cells
-          take2.new.s) take2.result take2.ensures c.in-Length.is
-          (going_working choose.invariant.1 p.1)).0,
-      choose2.ensures,
+    let heard = c.take-heard in
+    let s = heard.new.state in
+    let low = number_low a.net.now c.requires.0 in
+    let own = ap (λ (f : Part). least f 16) (sym (own_part s a.node blank low.0 (omega (arith, low)))) in (
+      going_trans choose.invariant.0
+          (again₁ a.net.now.layout (laid a.net.now) a.node (cells choose.state) (cells take.state) choose.chosen.sum choose.chosen.head
+          take.invariant (cells s) heard.result heard.ensures c.in-Length.is (going_working choose.invariant.0 c.requires.0)).0,
+      (c.choose-chosen.ensures.0 ∙ ap (λ (p : Choice). p.sum) own, c.choose-chosen.ensures.1 ∙ ap (λ (p : Choice). p.head) own),
     )
 
-pub shape_of-s-then-get-lmax : goal.shape_of-s-then-get-lmax
-shape_of-s-then-get-lmax c =
-    let p = c.requires in
-    let choose = c.choose in
-    let stop = c.stop in
-    stop.auto.s ∙ choose.invariant.0 ∙ sym p.3
-
-pub returns-then-get-lmax : goal.returns-then-get-lmax
-returns-then-get-lmax c =
+pub returns-then-state-node : goal.returns-then-state-node
+returns-then-state-node c =
     let a = c.args in
-    let p = c.requires in
     let choose = c.choose in
-    let get = c.get in
-    let stop = c.stop in
-    going_worked choose.invariant.1
-    (stopped_there a.net.now p.0 a.i (cells choose.s) choose.chosen.sum choose.chosen.head
-    get.result _ choose.invariant.2 get.ensures.0 refl (cells stop.new.s) (omega arith) stop.ensures)
-
-pub shape_of-s-in-Nothing : goal.shape_of-s-in-Nothing
-shape_of-s-in-Nothing c =
-    let p = c.requires
-    in
-    let take = c.take in
-    let take2 = c.take-heard in
-    take2.auto.s ∙ take.invariant.0 ∙ sym p.3
+    let s = choose.state in
+    let low = number_low a.net.now c.requires.0 in
+    let own = own_part s a.node blank low.0 (omega (arith, low)) in
+    going_worked choose.invariant.0
+    (stopped_there a.net.now.layout (laid a.net.now) a.node (cells s) choose.chosen.sum choose.chosen.head _ _ choose.invariant.1
+    (lp_of s a.node low.0 (omega (arith, low))) refl _ (omega arith)
+    (named (c.stop.ensures ∙ ap stopped_part (sym own)) (store_own s a.node c.stop.new.self low.0 (omega (arith, low)))))
 
 pub returns-in-Nothing : goal.returns-in-Nothing
 returns-in-Nothing c =
     let a = c.args in
-    let p = c.requires
-    in
     let choose = c.choose in
     let take = c.take in
-    let take2 = c.take-heard in
-    going_worked choose.invariant.1
-    (waited_there a.net.now p.0 a.i (cells choose.s) (cells take.s) choose.chosen.sum choose.chosen.head
-    take.invariant.1 (cells
-    take2.new.s) take2.result take2.ensures c.in-Nothing.is)
+    let heard = c.take-heard in
+    going_worked choose.invariant.0
+    (waited_there a.net.now.layout (laid a.net.now) a.node (cells choose.state) (cells take.state) choose.chosen.sum choose.chosen.head
+    take.invariant (cells heard.new.state) heard.result heard.ensures c.in-Nothing.is)

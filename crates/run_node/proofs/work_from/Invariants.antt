@@ -2,24 +2,19 @@
 use Rattle.run_node.proofs.Loops.{left, pick, Going}
 use Rattle.run_node.specs.Rules.{IsChoice}
 use Rattle.method.specs.Rules.{to₁, to₃}
-use Rattle.run_cells.specs.Part.{state_size, cells}
-use lib.ListN.{length}
-use mathlib.Core.Path.{◌≡◌}
+use Rattle.run_cells.specs.Part.{cells}
 use Rattle.run_node.proofs.work_from.Given as goal
 
 abbrev pub invariant-take : goal.invariant-take
-invariant-take l =
-    (length l.s ≡ state_size) × Going l.net l.i (to₃ (pick l.chosen.sum l.chosen.head)) (cells l.initial.s) (cells l.s)
+invariant-take l = Going l.net.layout l.node (to₃ (pick l.chosen.sum l.chosen.head)) (cells l.initial.state) (cells l.state)
 
 abbrev pub decreases-take : goal.decreases-take
-decreases-take l =
-    left l.net (cells l.s) l.i
+decreases-take l = left l.net.layout (cells l.state) l.node
 
 abbrev pub invariant-choose : goal.invariant-choose
 invariant-choose l =
-    (length l.s ≡ state_size) × Going l.net l.i to₁ (cells l.initial.s) (cells l.s)
-    × IsChoice (cells l.s l.i) l.chosen.sum l.chosen.head
+    Going l.net.layout l.node to₁ (cells l.initial.state) (cells l.state)
+    × IsChoice (cells l.state l.node) l.chosen.sum l.chosen.head
 
 abbrev pub decreases-choose : goal.decreases-choose
-decreases-choose l =
-    left l.net (cells l.s) l.i
+decreases-choose l = left l.net.layout (cells l.state) l.node

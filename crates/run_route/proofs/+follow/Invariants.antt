@@ -4,4 +4,4 @@ use Rattle.method.specs.Route.{distance_to}
 use Rattle.run_route.proofs.+follow.Given as goal
 
 abbrev pub decreases-follow : goal.decreases-follow
-decreases-follow l = distance_to (state_of (cells l.s.now)) l.y l.i
+decreases-follow l = distance_to (state_of (cells l.state.now)) l.target l.node

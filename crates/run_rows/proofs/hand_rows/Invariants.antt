@@ -1,7 +1,5 @@
 -- `hand_rows`: one node's row more at each turn.
-use Prim.Native.Nat.{◌-◌, ◌≤◌}
 use mathlib.Core.Path.{◌≡◌}
-use lib.ListN.{length}
 use lib.Seq.{sets}
 use Rattle.method.specs.Entries.{entry_of}
 use Rattle.method.specs.Marks.{row_numbers}
@@ -10,8 +8,4 @@ use Rattle.run_rows.proofs.hand_rows.Given as goal
 
 abbrev pub invariant-loop-i : goal.invariant-loop-i
 invariant-loop-i l =
-    (l.i ≤ l.n) × (length l.entries ≡ length l.initial.entries)
-    × (l.entries ≡ sets l.initial.entries 0 (row_numbers (λ i. entry_of (state_of (cells l.s) i).node) l.n l.i))
-
-abbrev pub decreases-loop-i : goal.decreases-loop-i
-decreases-loop-i l = l.n - l.i
+    l.entries ≡ sets l.initial.entries 0 (row_numbers (λ i. entry_of (state_of (cells l.state) i).node) l.nodes l.i)

@@ -1,53 +1,25 @@
--- `read_entries`: the header's refusals, then all that the records tell, by how they end.
-use mathlib.Core.Path.{◌≡◌, sym, ◌∙◌, ap}
-use mathlib.Core.Bool.{true, false}
-use mathlib.Core.List.{List}
-use Prim.Native.Nat.{ℕ}
-use Rattle.refusal.specs.declared.Refusal.{Refusal}
-use Rattle.table.specs.Reader.{Reading, refused}
-use Rattle.call.specs.Files.{entries_outcome, table_room}
-use Rattle.table.specs.declared.Outcome.TheVariants.{Refused}
-use Rattle.table_records.proofs.SoundHeader.{fault_refuses}
-use Rattle.table_reader.proofs.AllRead.{all_read, all_refused}
+-- `read_entries`: the header's refusals, then how the records end, then all that they tell.
+use Rattle.std.proofs.lemmas.Result.{err_from_is_err_and}
+use Rattle.table_records.proofs.SoundHeader.{header_refuses, is_accepted, records_refuse}
+use Rattle.table_reader.proofs.AllRead.{none_stored, all_stored}
 use Rattle.table_reader.proofs.read_entries.Goals as goal
 
--- a refused file leaves the room as it was
-leaves : (x : Reading) (r : Refusal) (room : List ℕ) → x ≡ refused r → (Refused r ≡ entries_outcome x room) × (room ≡ table_room x room)
-leaves x r room e = (ap (λ (y : Reading). entries_outcome y room) (sym e), ap (λ (y : Reading). table_room y room) (sym e))
+pub returns-in_err-records : goal.returns-in_err-records
+returns-in_err-records c =
+    let p = err_from_is_err_and c.from_residual.result c.from_residual.ensures.1 in
+    rw (p.1, p.2) (none_stored c.args.file.now _ c.args.room.now (header_refuses c.args.file.now _ c.in_err-records.ensures.err))
 
-pub returns-then-fault-ne0 : goal.returns-then-fault-ne0
-returns-then-fault-ne0 c =
-    let a = c.args in
-    leaves _ _ a.room.now (fault_refuses a.file.now _ c.fault-fault.ensures c.if-fault-ne0.true)
+pub returns-in_err-ending : goal.returns-in_err-ending
+returns-in_err-ending c =
+    let p = err_from_is_err_and c.from_residual-in_err-ending.result c.from_residual-in_err-ending.ensures.1 in
+    let r = c.in_ok-records.records in
+    let refused = records_refuse r.file.now r.header r.sound _ c.in_err-ending.ensures in
+    rw (p.1, p.2) (none_stored c.args.file.now _ c.args.room.now (rw c.in_ok-records.ensures.ok.0 at refused))
 
-pub numbers-h-requires : goal.numbers-h-requires
-numbers-h-requires c = ap (λ (r : Refusal). r.number) (sym c.fault-fault.ensures) ∙ c.if-fault-ne0.false
-
-pub ending_of-ending-requires : goal.ending_of-ending-requires
-ending_of-ending-requires c = c.numbers-h.ensures
-
-pub put_all-requires : goal.put_all-requires
-put_all-requires c = c.numbers-h.ensures
-
-pub put_all-requires-in-Marked : goal.put_all-requires-in-Marked
-put_all-requires-in-Marked c = c.numbers-h.ensures
-
-pub returns-in-Unfinished : goal.returns-in-Unfinished
-returns-in-Unfinished c =
-    let a = c.args in
-    all_read a.file.now _ c.numbers-h.ensures _ c.ending_of-ending.ensures false
-    c.in-Unfinished.is
-    a.room.now _ _ c.put_all.ensures.0 c.put_all.ensures.1
-
-pub returns-in-Marked : goal.returns-in-Marked
-returns-in-Marked c =
-    let a = c.args in
-    all_read a.file.now _ c.numbers-h.ensures _ c.ending_of-ending.ensures true
-    c.in-Marked.is
-    a.room.now _ _ c.put_all-in-Marked.ensures.0 c.put_all-in-Marked.ensures.1
-
-pub returns-in-Faulty : goal.returns-in-Faulty
-returns-in-Faulty c =
-    let a = c.args in
-    leaves _ _ a.room.now
-    (all_refused a.file.now _ c.numbers-h.ensures _ c.ending_of-ending.ensures _ c.in-Faulty.is)
+pub returns : goal.returns
+returns c =
+    let r = c.in_ok-records.records in
+    let file = c.in_ok-records.ensures.ok.0 in
+    let read = is_accepted r.file.now r.header r.sound _ c.in_ok-ending.ensures in
+    let left = rw c.absent.ensures at c.put_all.ensures.1 in
+    rw file at (all_stored r.file.now r.header r.sound _ read c.args.room.now _ _ c.put_all.ensures.0 left)

@@ -1,39 +1,52 @@
 -- `read_entry`: the header's refusals, then what the records tell, by how they end.
-use mathlib.Core.Path.{refl, sym, ◌∙◌, ap}
-use Rattle.refusal.specs.declared.Refusal.{Refusal}
-use Rattle.table.specs.Reader.{Reading, entry_from}
-use Rattle.table_reader.specs.Code.{answer_of}
-use Rattle.table.specs.declared.Ending.TheVariants.{Unfinished, Marked, Faulty}
-use Rattle.table_records.proofs.SoundHeader.{fault_refuses}
-use Rattle.table_reader.proofs.Answering.{scan_answers}
+use mathlib.Core.Path.{◌∙◌, ap}
+use Rattle.std.specs.Prelude.{Ok, Err}
+use Rattle.method.specs.Entries.{find}
+use Rattle.std.proofs.lemmas.Result.{err_from_is_err_and}
+use Rattle.table_records.proofs.SoundHeader.{header_refuses, is_accepted, records_refuse}
+use Rattle.table_records.proofs.Steps.{steps_nearer, ended, concludes}
+use Rattle.table_reader.proofs.AllRead.{none_read, one_read}
 use Rattle.table_reader.proofs.read_entry.Goals as goal
 
-pub returns-then-fault-ne0 : goal.returns-then-fault-ne0
-returns-then-fault-ne0 c =
-    let a = c.args in
-    let e = fault_refuses a.file.now _ c.fault-fault.ensures c.if-fault-ne0.true in
-    ap (λ (x : Reading). answer_of (entry_from x a.target)) (sym e)
+pub returns-in_err-records : goal.returns-in_err-records
+returns-in_err-records c =
+    let p = err_from_is_err_and c.from_residual.result c.from_residual.ensures.1 in
+    rw (p.1, p.2) (none_read c.args.file.now _ c.args.target (header_refuses c.args.file.now _ c.in_err-records.ensures.err))
 
-pub numbers-h-requires : goal.numbers-h-requires
-numbers-h-requires c = ap (λ (r : Refusal). r.number) (sym c.fault-fault.ensures) ∙ c.if-fault-ne0.false
+pub returns-in_err-record : goal.returns-in_err-record
+returns-in_err-record c =
+    let p = err_from_is_err_and c.from_residual-in_err-record.result c.from_residual-in_err-record.ensures.1 in
+    let l = c.loop-record in
+    let refused = records_refuse l.records.file.now l.records.header l.records.sound _ c.in_err-record.ensures.steps.1 in
+    rw (p.1, p.2) (none_read c.args.file.now _ c.args.target (rw l.invariant.0 at refused))
 
-pub scan-w-requires : goal.scan-w-requires
-scan-w-requires c = c.numbers-h.ensures
+pub loop-record-smaller-then-from-target : goal.loop-record-smaller-then-from-target
+loop-record-smaller-then-from-target c =
+    let next = c.next.ensures in
+    steps_nearer c.loop-record.records c.next.new.self next.same _ next.steps _ (c.in_ok-record.was ∙ ap Ok c.in-Some.is)
 
-pub returns-in-Unfinished : goal.returns-in-Unfinished
-returns-in-Unfinished c =
-    let a = c.args in
-    scan_answers a.target a.file.now _ c.numbers-h.ensures _ Unfinished c.scan-w.ensures
-    c.in-Unfinished.is _ c.entry_by.ensures
+pub loop-record-smaller : goal.loop-record-smaller
+loop-record-smaller c =
+    let next = c.next.ensures in
+    steps_nearer c.loop-record.records c.next.new.self next.same _ next.steps _ (c.in_ok-record.was ∙ ap Ok c.in-Some.is)
 
-pub returns-in-Marked : goal.returns-in-Marked
-returns-in-Marked c =
-    let a = c.args in
-    scan_answers a.target a.file.now _ c.numbers-h.ensures _ Marked c.scan-w.ensures
-    c.in-Marked.is _ c.entry_by-in-Marked.ensures
+pub returns-in_err-ending : goal.returns-in_err-ending
+returns-in_err-ending c =
+    let p = err_from_is_err_and c.from_residual-in_err-ending.result c.from_residual-in_err-ending.ensures.1 in
+    let l = c.loop-record in
+    let next = c.next.ensures in
+    let end = concludes _ _ _ _ _ next.steps (c.in_ok-record.was ∙ ap Ok c.in_default.is) l.records.walked (Err c.in_err-ending.field-0.0)
+    (rw next.same.0 at c.in_err-ending.ensures) in
+    let refused = records_refuse l.records.file.now l.records.header l.records.sound _ end in
+    rw (p.1, p.2) (none_read c.args.file.now _ c.args.target (rw l.invariant.0 at refused))
 
-pub returns-in-Faulty : goal.returns-in-Faulty
-returns-in-Faulty c =
-    let a = c.args in
-    scan_answers a.target a.file.now _ c.numbers-h.ensures _ (Faulty _) c.scan-w.ensures
-    c.in-Faulty.is _ refl
+pub returns : goal.returns
+returns c =
+    let l = c.loop-record in
+    let next = c.next.ensures in
+    let none = c.in_ok-record.was ∙ ap Ok c.in_default.is in
+    let end = concludes _ _ _ _ _ next.steps none l.records.walked (Ok c.in_ok-ending.ending) (rw next.same.0 at c.in_ok-ending.ensures) in
+    let read = is_accepted l.records.file.now l.records.header l.records.sound _ end in
+    let all = ended _ _ _ _ _ next.steps none in
+    let told = one_read l.records.file.now l.records.header _ c.args.target _ read (l.invariant.1 ∙ ap (find c.args.target) all.0) in
+    c.entry_by.ensures ∙ rw next.same.1 (rw l.invariant.0 at told)

@@ -1,53 +1,53 @@
 -- `ending_at`: each test of the definition, in its order.
+use mathlib.Core.Path.{refl}
 use Prim.Native.Nat.{◌+◌, ◌-◌, ◌%◌}
 use lib.ListN.{length}
 use borrow.Author.Tests.{lt-ltb, le-ltb, eq-eqb, ne_eqb}
 use Rattle.bits.specs.Bits.{bits_of, field}
 use Rattle.bits.proofs.Bytes.{length_bits}
 use Rattle.table.specs.Reader.{end_rows}
-use Rattle.table_records.specs.Parts.{ending_at}
 use Rattle.table_records.proofs.ByteRest.{begins_with_1, begins_with_0}
 use native.Mathlib.Omega.{arith}
 use Rattle.table_records.proofs.ending_at.Goals as goal
 
 pub returns-then-file-p : goal.returns-then-file-p
-unfolding ending_at end_rows
+unfolding end_rows
 returns-then-file-p c =
     let a = c.args in
     let s = a.file.now in
-    simp (le-ltb a.p (length (bits_of s)) (omega (arith, length_bits s)))
+    simp (le-ltb a.p (length (bits_of s)) (omega (arith, length_bits s))) (refl, refl)
 
-pub returns-then-power-x : goal.returns-then-power-x
-unfolding ending_at end_rows
-returns-then-power-x c =
+pub returns-then-power-rest : goal.returns-then-power-rest
+unfolding end_rows
+returns-then-power-rest c =
     let a = c.args in
     let s = a.file.now in
     simp (
       lt-ltb a.p (length (bits_of s)) (omega (arith, length_bits s)),
       ne_eqb (field (bits_of s) a.p 1) 0
-          (begins_with_1 s a.p _ (omega arith) c.rest_of_byte-x.ensures (omega (arith, c.power.ensures.0))),
-    )
+          (begins_with_1 s a.p _ (omega arith) c.rest_of_byte-rest.ensures (omega (arith, c.power.ensures.0))),
+    ) (refl, refl)
 
-pub returns-then-x-ne0 : goal.returns-then-x-ne0
-unfolding ending_at end_rows
-returns-then-x-ne0 c =
+pub returns-then-rest-ne0 : goal.returns-then-rest-ne0
+unfolding end_rows
+returns-then-rest-ne0 c =
     let a = c.args in
     let s = a.file.now in
-    let z = begins_with_0 s a.p _ (omega arith) c.rest_of_byte-x.ensures
+    let z = begins_with_0 s a.p _ (omega arith) c.rest_of_byte-rest.ensures
     (omega (arith, c.power.ensures.0)) in
     simp (
       lt-ltb a.p (length (bits_of s)) (omega (arith, length_bits s)),
       eq-eqb (field (bits_of s) a.p 1) 0 z.0,
       ne_eqb (field (bits_of s) (a.p + 1) (7 - a.p % 8)) 0 (omega (arith, z.1)),
-      c.first_one-q.ensures,
+      c.first_one.ensures,
     )
 
 pub returns-then-p-file : goal.returns-then-p-file
-unfolding ending_at end_rows
+unfolding end_rows
 returns-then-p-file c =
     let a = c.args in
     let s = a.file.now in
-    let z = begins_with_0 s a.p _ (omega arith) c.rest_of_byte-x.ensures
+    let z = begins_with_0 s a.p _ (omega arith) c.rest_of_byte-rest.ensures
     (omega (arith, c.power.ensures.0)) in
     simp (
       lt-ltb a.p (length (bits_of s)) (omega (arith, length_bits s)),
@@ -57,15 +57,15 @@ returns-then-p-file c =
     )
 
 pub returns : goal.returns
-unfolding ending_at end_rows
+unfolding end_rows
 returns c =
     let a = c.args in
     let s = a.file.now in
-    let z = begins_with_0 s a.p _ (omega arith) c.rest_of_byte-x.ensures
+    let z = begins_with_0 s a.p _ (omega arith) c.rest_of_byte-rest.ensures
     (omega (arith, c.power.ensures.0)) in
     simp (
       lt-ltb a.p (length (bits_of s)) (omega (arith, length_bits s)),
       eq-eqb (field (bits_of s) a.p 1) 0 z.0,
       eq-eqb (field (bits_of s) (a.p + 1) (7 - a.p % 8)) 0 (omega (arith, z.1)),
       le-ltb (a.p + (8 - a.p % 8)) (length (bits_of s)) (omega (arith, length_bits s)),
-    )
+    ) (refl, refl)

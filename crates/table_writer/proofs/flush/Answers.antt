@@ -1,12 +1,8 @@
 -- `flush`: one byte is stored, and from 16 bits on a second.
-use lib.Seq.{lt-length-set}
 use borrow.Author.Tests.{le-leb, lt-leb}
 use Rattle.table_writer.specs.Code.{flushed}
 use native.Mathlib.Omega.{arith}
 use Rattle.table_writer.proofs.flush.Goals as goal
-
-pub bounds-room-k-then-n-ge16 : goal.bounds-room-k-then-n-ge16
-bounds-room-k-then-n-ge16 c = lt-length-set c.args.room.now c.args.k _ (omega arith)
 
 pub returns-then-n-ge16 : goal.returns-then-n-ge16
 unfolding flushed

@@ -1,100 +1,56 @@
 -- `write_file`: refused before the first store; else header, records and end, one after the other.
 use mathlib.Core.Path.{◌≡◌, sym, ◌∙◌, ap, ap₂}
-use mathlib.Core.List.{List}
-use Prim.Native.Nat.{ℕ, ◌+◌, ◌*◌, min}
+use mathlib.Core.List.{[], ◌++◌}
+use Prim.Native.Nat.{ℕ, ◌+◌, ◌*◌}
 use lib.ListN.{length}
 use borrow.Author.Tests.{lt-ltb, le-ltb}
-use Rattle.bits.specs.Bits.{Bytes}
-use Rattle.table.specs.File.{header_of, one, file_of}
-use Rattle.table_writer.specs.Lent.{listed}
-use Rattle.table_writer.specs.Code.{three_fields}
-use Rattle.table.specs.declared.Outcome.TheVariants.{Written}
-use Rattle.table.proofs.Sizes.{end_after}
-use Rattle.table_writer.proofs.Writing.{listed_size, listed_written}
 use native.Mathlib.Omega.{arith}
+use Rattle.std.specs.Prelude.{Ok, Err}
+use Rattle.bits.specs.Bits.{as_bits, bits_of, Bytes}
+use Rattle.table.specs.File.{one, header_bits, file_of, start_of, end_bits, body_bits}
+use Rattle.table.specs.Size.{bytes_for}
+use Rattle.table.proofs.Sizes.{length_file}
+use Rattle.table_writer.specs.Lent.{newest_first}
+use Rattle.table_writer.specs.Code.{three_fields, records_bits}
+use Rattle.table_writer.specs.Adds.{place}
+use Rattle.table_writer.proofs.Pended.{pending_start, pending_as}
+use Rattle.table_writer.proofs.Writing.{header_joined, length_newest, body_parts, file_stands}
 use Rattle.table_writer.proofs.write_file.Goals as goal
-
-pub overflow_mul-p : goal.overflow_mul-p
-overflow_mul-p c = record { fits = omega (arith, c.least-many.ensures, c.least.ensures) }
-
-pub overflow_add-p : goal.overflow_add-p
-overflow_add-p c = record { fits = omega (arith, c.least-many.ensures, c.least.ensures) }
-
-pub bytes_for-size-requires : goal.bytes_for-size-requires
-bytes_for-size-requires c = omega (arith, c.least-many.ensures, c.least.ensures)
 
 pub returns-then-room-size : goal.returns-then-room-size
 returns-then-room-size c =
     let a = c.args in
-    let h = header_of a.own a.n a.lmax in
-    let t = a.targets.now in
-    let d = a.distances.now in
-    let hs = a.hops.now in
-    let k = c.least-many.result in
-    let e : k ≡ min (min a.count (length t)) (min (length d) (length hs)) = c.least-many.ensures
-    ∙ ap₂ min c.least.ensures c.least-2.ensures in
-    let file : List ℕ = file_of one h (listed t d hs k) a.stopped in
-    let short = lt-ltb (length a.room.now) (length file)
-    (omega (arith, listed_size t d hs h k a.stopped, c.bytes_for-size.ensures)) in
-    rw (← e) (simp short, simp short)
-
-pub flush-requires : goal.flush-requires
-flush-requires c =
-    let a = c.args in
-    (omega arith, omega arith, omega (arith, end_after a.stopped (16 + 13 * c.least-many.result), c.bytes_for-size.ensures))
-
-pub put_records-held-requires : goal.put_records-held-requires
-put_records-held-requires c =
-    let many = c.least-many.ensures in
-    let one = c.least.ensures in
-    let two = c.least-2.ensures in (
-      omega (
-        arith,
-        end_after c.args.stopped
-            (16 + 13 * c.least-many.result),
-        c.bytes_for-size.ensures,
-      ),
-      omega (arith, many, one),
-      omega (arith, many, one),
-      omega (arith, many, two),
-      omega (arith, many, two),
-    )
-
-pub put_end-requires : goal.put_end-requires
-put_end-requires c = (
-  c.put_records-held.ensures.0,
-  omega (
-    arith,
-    c.bytes_for-size.ensures,
-  ),
-  omega (
-    arith,
-    c.least-many.ensures,
-    c.least.ensures,
-  ),
-)
+    let es = newest_first a.records.now in
+    let size : length (file_of one a.header es a.stopped) ≡ c.size_of-size.result = length_file one a.header es a.stopped
+    ∙ ap (λ (n : ℕ). bytes_for a.stopped (16 + 13 * n)) (length_newest a.records.now) ∙ sym c.size_of-size.ensures in
+    let short = lt-ltb (length a.room.now) (length (file_of one a.header es a.stopped)) (omega (arith, size)) in
+    (ap Err c.into.ensures ∙ simp short, simp short)
 
 pub returns : goal.returns
+unfolding bits_of
 returns c =
     let a = c.args in
-    let h = header_of a.own a.n a.lmax in
-    let t = a.targets.now in
-    let d = a.distances.now in
-    let hs = a.hops.now in
-    let k = c.least-many.result in
-    let e : k ≡ min (min a.count (length t)) (min (length d) (length hs)) = c.least-many.ensures
-    ∙ ap₂ min c.least.ensures c.least-2.ensures in
-    let file : List ℕ = file_of one h (listed t d hs k) a.stopped in
-    let size = listed_size t d hs h k a.stopped in
-    let fits = le-ltb (length a.room.now) (length file) (omega (arith, size, c.bytes_for-size.ensures, c.if-room-size.false)) in
-    let by : Bytes c.put_end.new.room = record { each = λ i. omega (arith, c.type_inv.room i) } in
-    let v = c.join.ensures.0
-    ∙ ap₂ (λ (x y : ℕ). three_fields x y a.lmax) c.less.ensures c.less-2.ensures in
-    rw (← e) (
-      simp fits (ap Written (c.bytes_for-size.ensures ∙ sym size)),
+    let h = a.header in
+    let es = newest_first a.records.now in
+    let size : length (file_of one h es a.stopped) ≡ c.size_of-size.result = length_file one h es a.stopped
+    ∙ ap (λ (n : ℕ). bytes_for a.stopped (16 + 13 * n)) (length_newest a.records.now) ∙ sym c.size_of-size.ensures in
+    let fits = le-ltb (length a.room.now) (length (file_of one h es a.stopped)) (omega (arith, size)) in
+    let v = c.join-numbers.result in
+    let header : as_bits 16 v ≡ header_bits one h = ap (as_bits 16) (c.join-numbers.ensures.0
+    ∙ ap₂ (λ (x y : ℕ). three_fields x y h.lmax) c.saturating_sub.ensures c.saturating_sub-2.ensures) ∙ header_joined h in
+    let stored = c.push_end.ensures.bits _ _ (c.push_records.ensures.bits _ _ (c.push.ensures.bits _ [] (pending_start a.room.now 0))) in
+    let p : ℕ = start_of one (length es) in
+    let at : place c.push_records.new.self ≡ p =
+    omega (arith, c.push.ensures.moved, c.push_records.ensures.moved, length_newest a.records.now) in
+    let moved = rw at at c.push_end.ensures.moved in
+    let end = c.push_end.new.self in
+    let bits : ((as_bits 16 v ++ records_bits one es) ++ end_bits a.stopped (place c.push_records.new.self))
+    ≡ body_bits one h es ++ end_bits a.stopped p =
+    rw (at, header, body_parts one h es) in
+    let by : Bytes c.push_end.new.room = record { each = λ i. omega (arith, c.type_inv.room i) } in (
+      simp fits (ap Ok (sym size)),
       simp fits
-          (listed_written t d hs h k a.stopped a.room.now c.flush.new.room c.put_records-held.new.room
-          c.put_end.new.room _ _ (omega (arith, c.bytes_for-size.ensures, c.if-room-size.false)) (omega arith) (omega arith)
-          (omega arith) by v
-          c.flush.ensures c.put_records-held.ensures.1 c.put_end.ensures),
+          (file_stands a.room.now c.push_end.new.room end.held h es a.stopped by (omega arith)
+          (omega (arith, size, length_file one h es a.stopped))
+          (pending_as (bytes_for a.stopped p) 0 _ stored (omega (arith, moved, end.small)) (omega (arith, moved, end.small)) bits)),
     )
