@@ -43,7 +43,7 @@ pub fn entry(
 }
 
 // The nodes that first hops pass from the node to the target, the target last, into the room's first places: how many they are, and the
-// entry. They are counted in a room of our own first: the lent one may be short.
+// distance or the mark in its place. They are counted in a room of our own first: the lent one may be short.
 pub fn route(
     found: Result<Network, Reason>,
     steps: &[u8],

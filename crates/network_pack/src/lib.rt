@@ -45,7 +45,8 @@ fn bytes_of(m: u8) -> u16
     3 + (12 * u16::from(m) + 7) / 8
 }
 
-// Writes two arcs in the three bytes from p on.
+// Writes two arcs in the three bytes from p on. That arcs fit their fields is asked for: an `Arc` holds what is refused as well, so its type
+// cannot say it.
 fn put_pair(room: &mut [u8], p: usize, a: Arc, b: Arc)
     requires { Fits (given a) × Fits (given b) × (p + 2 < length room.old) }
     ensures { room.new ≡ sets room.old p (pair_bytes (given a ∷ given b ∷ [])) }
