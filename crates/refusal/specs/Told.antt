@@ -37,8 +37,3 @@ told r = Rows.refusal (number_of r.reason) r.place
 abbrev pub number_in : {A : Type 0} → Result A Reason → ℕ
 number_in (Ok x) = 0
 number_in (Err reason) = number_of reason
-
--- and with its place, none for none
-abbrev pub refusal_in : {A : Type 0} → Result A Refusal → Rows.Refusal
-refusal_in (Ok x) = Rows.none
-refusal_in (Err r) = told r

@@ -76,9 +76,6 @@ hops_at = distances_at + entry_most
 abbrev pub messages_at : ℕ
 messages_at = hops_at + entry_most
 
-abbrev pub part_size : ℕ
-part_size = messages_at + sent_most
-
 -- a part's numbers by place
 abbrev pub Part : Type 0
 Part = ℕ → ℕ

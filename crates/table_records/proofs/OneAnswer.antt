@@ -16,7 +16,7 @@ use Rattle.table.specs.File.{one, start_of}
 use Rattle.table.specs.declared.Header.{Header}
 use Rattle.table.specs.Reader.{stands, record_at, record_rows, records_in, next_rows}
 use Rattle.table.proofs.Walk.{body_first}
-use Rattle.table_records.specs.Walk.{At, taken, Steps}
+use Rattle.table_records.specs.Walk.{At, before, Steps}
 use Rattle.table_records.specs.declared.Cursor.{Cursor}
 
 abbrev head_or : Rules.Filled → List Rules.Filled → Rules.Filled
@@ -25,7 +25,7 @@ head_or x (e ∷ es) = e
 
 module _ (h : Header) (B : List ℕ) (c : Cursor) where
   abbrev T : List Rules.Filled
-  T = taken h B c.at
+  T = before h B c.at
 
   abbrev R : List Rules.Filled
   R = records_in one h B
@@ -38,8 +38,8 @@ module _ (h : Header) (B : List ℕ) (c : Cursor) where
   Alike r q = ⊥
 
   -- more records are not taken than there are
-  too_many : (p : ℕ) (e : Rules.Filled) → T ≡ R → taken h B p ≡ e ∷ T → ⊥
-  unfolding taken
+  too_many : (p : ℕ) (e : Rules.Filled) → T ≡ R → before h B p ≡ e ∷ T → ⊥
+  unfolding before
   too_many p e all more =
       omega (
         arith,
@@ -49,8 +49,8 @@ module _ (h : Header) (B : List ℕ) (c : Cursor) where
       )
 
   -- the record after those taken is one
-  same : (p q : ℕ) (e y : Rules.Filled) → taken h B p ≡ e ∷ T → taken h B q ≡ y ∷ T → e ≡ y
-  unfolding taken
+  same : (p q : ℕ) (e y : Rules.Filled) → before h B p ≡ e ∷ T → before h B q ≡ y ∷ T → e ≡ y
+  unfolding before
   same p q e y s z =
       let k : length R - (p - 16) / 13 ≡ length R - (q - 16) / 13 = omega (
         arith,

@@ -25,7 +25,7 @@ use Rattle.table.specs.Passed.{Passed}
 use Rattle.table.proofs.Walk.{stands_fits, walk_stop, walk_on, walk_keeps, taken_passed, body_first}
 use Rattle.table_records.specs.Parts.{FirstWrong, refusal_at}
 use Rattle.table_records.specs.declared.Field.{Field}
-use Rattle.table_records.specs.Walk.{is_in, seen_of, beginning, At, taken}
+use Rattle.table_records.specs.Walk.{is_in, seen_of, beginning, At, before}
 use Rattle.table_records.specs.declared.Cursor.{Cursor}
 use Rattle.table_records.proofs.Seen.{seen_is, seen_below}
 
@@ -48,9 +48,9 @@ passed_rest h [] es p = p
 passed_rest h (e ∷ more) es p = passed_rest h more es p.1
 
 -- the records before the cursor are those of the file that stand there
-pub at_taken : {h : Header} {B : List ℕ} {c : Cursor} {es : List Filled} → At one h B c es → taken h B c.at ≡ es
-unfolding taken
-at_taken {h} {B} {c} {es} a =
+pub at_before : {h : Header} {B : List ℕ} {c : Cursor} {es : List Filled} → At one h B c es → before h B c.at ≡ es
+unfolding before
+at_before {h} {B} {c} {es} a =
     let w = walk_more one h (length B - length es) es B c.at in
     let all : records_in one h B ≡ w.0 ++ es = a.walks ∙ w.1 in
     let k : (c.at - 16) / 13 ≡ length es = omega (arith, a.place) in

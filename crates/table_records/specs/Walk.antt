@@ -34,14 +34,14 @@ pub record At (f : Form) (h : Header) (B : List ℕ) (c : Cursor) (es : List Fil
   pub distance : c.distance ≡ last_distance es
 
 -- the records of a file that stand before bit p, newest first
-unfoldable pub taken : Header → List ℕ → ℕ → List Filled
-taken h B p = drop (length (records_in one h B) - (p - 16) / 13) (records_in one h B)
+unfoldable pub before : Header → List ℕ → ℕ → List Filled
+before h B p = drop (length (records_in one h B) - (p - 16) / 13) (records_in one h B)
 
 -- what a step from the cursor c to d gives: one record more; or they end at c, where none stands, or where one stands that is refused. So
 -- there is one answer for each cursor: 17 is told here, and 18 never (proofs/OneAnswer.antt).
 abbrev pub Steps : Header → List ℕ → Cursor → Cursor → Result (Option Filled.Filled) Refusal → Type 0
-Steps h B c d (Ok (Some e)) = taken h B d.at ≡ filled e ∷ taken h B c.at
+Steps h B c d (Ok (Some e)) = before h B d.at ≡ filled e ∷ before h B c.at
 Steps h B c d (Ok None) =
-    (taken h B c.at ≡ records_in one h B) × (first (body_rows one h B) ≡ first (end_rows B c.at)) × (d ≡ c) × (stands one B c.at ≡ false)
+    (before h B c.at ≡ records_in one h B) × (first (body_rows one h B) ≡ first (end_rows B c.at)) × (d ≡ c) × (stands one B c.at ≡ false)
 Steps h B c d (Err r) =
-    (taken h B c.at ≡ records_in one h B) × (told r ≡ first (body_rows one h B)) × (d ≡ c) × (stands one B c.at ≡ true)
+    (before h B c.at ≡ records_in one h B) × (told r ≡ first (body_rows one h B)) × (d ≡ c) × (stands one B c.at ≡ true)

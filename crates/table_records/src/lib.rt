@@ -10,7 +10,7 @@ ghost use Rattle.table.specs.File.{one};
 ghost use Rattle.table.specs.Reader.{first_one, zero_bit, header_at, header_rows, end_rows, body_rows, end_of};
 ghost use Rattle.table_header.specs.HasHeader.{HasHeader};
 ghost use Rattle.table_records.specs.Parts.{bits_standing, field_place, FirstWrong, Concludes};
-ghost use Rattle.table_records.specs.Walk.{is_in, beginning, taken, At, Steps};
+ghost use Rattle.table_records.specs.Walk.{is_in, beginning, before, At, Steps};
 
 use method::Filled;
 use refusal::{Reason, Refusal};
@@ -54,7 +54,7 @@ pub struct Records<'a> {
     pub header: Header,
     pub cursor: Cursor,
     pub ghost sound: { HasHeader file.now header },
-    pub ghost walked: { At one header (bits_of file.now) cursor (taken header (bits_of file.now) cursor.at) } by { Prim.hlevel props },
+    pub ghost walked: { At one header (bits_of file.now) cursor (before header (bits_of file.now) cursor.at) } by { Prim.hlevel props },
 }
 
 // The 13 bits from bit p on, or 0 where fewer stand: below 4096 is no record.

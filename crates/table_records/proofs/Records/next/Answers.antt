@@ -1,7 +1,7 @@
 -- `next`: no record, a wrong one, or one more.
 use mathlib.Core.Path.{refl, sym, ◌∙◌, ap}
 use Rattle.refusal.specs.Rows.{refusal}
-use Rattle.table_records.proofs.Walk.{at_nothing, at_taken}
+use Rattle.table_records.proofs.Walk.{at_nothing, at_before}
 use Rattle.table_records.proofs.Thirteen.{not_there, met_wrong, met_record}
 use Rattle.table_records.proofs.Steps.{narrow, stays}
 use native.Mathlib.Omega.{arith}
@@ -62,5 +62,5 @@ pub returns-clause-steps : goal.returns-clause-steps
 returns-clause-steps c =
     let r = c.args.self.now in
     let wrong = c.wrong_field in
-    at_taken
+    at_before
     (met_record r.file.now r.walked _ _ c.record_at-record.ensures.0 (omega arith) wrong.ensures c.in_default.is _ c.power.ensures.0)
