@@ -57,8 +57,8 @@ pub fn deliver(net: &Network, state: &mut State, site: u8) -> Kind
         Phase::Unstarted | Phase::Stopped => Kind::Taken,
         Phase::Started => {
             let chosen = Chosen {
-                sum: state.parts[tail].sums[head + 1],
-                head: site % 16 + 1,
+                sum: usize::from(state.parts[tail].sums[head + 1]),
+                head: head + 1,
             };
             work_from(net, state, tail + 1, chosen);
             Kind::Taken

@@ -11,12 +11,15 @@ use method::Filled;
 use network::Network;
 use run_cells::*;
 
-// A chosen arc: its sum, and its head. No sum is the number 255, as in `least` of specs/Rules, and not a `None`: the sums of a part are
-// bytes, and a choice is one comparison of two.
+// Codes up to this are the end and labels, which are numbers of nodes: `LABELS`, as wide as a code is here.
+const LABEL_MOST: usize = NODES_MOST;
+
+// A chosen arc: its sum, and its head. No sum is the number 255, as in `least` of specs/Rules, and not a `None`: a choice is one comparison
+// of two sums. Both are plain numbers, as there; a part keeps them as bytes, to be small.
 #[derive(Clone, Copy, Debug, PartialEq, Eq, Hash)]
 pub struct Chosen {
-    pub sum: u8,
-    pub head: u8,
+    pub sum: usize,
+    pub head: usize,
 }
 
 impl Chosen {
@@ -34,18 +37,18 @@ pub fn choose(part: &Part) -> Chosen
     ensures { IsChoice (numbers part.now) result.sum result.head }
 {
     let none = Chosen {
-        sum: NO_SUM,
+        sum: usize::from(NO_SUM),
         head: 0,
     };
     let mut low = none;
     let mut high = none;
     for head in 1..=8 {
         low = low.lesser(Chosen {
-            sum: part.sums[usize::from(head)],
+            sum: usize::from(part.sums[head]),
             head,
         });
         high = high.lesser(Chosen {
-            sum: part.sums[usize::from(8 + head)],
+            sum: usize::from(part.sums[8 + head]),
             head: 8 + head,
         });
     }
@@ -60,8 +63,9 @@ pub enum Heard {
     Length,
 }
 
-// Rule 4: a message on the chosen arc is heard. A length comes as its rise, which the sum rises by.
-pub fn hear(part: &mut Part, chosen: Chosen, message: u8) -> Heard
+// Rule 4: a message on the chosen arc is heard. A length comes as its rise, which the sum rises by: the new sum fits a byte, which the code
+// need not.
+pub fn hear(part: &mut Part, chosen: Chosen, message: usize) -> Heard
     requires { (chosen.head < table_size) × (chosen.sum + (message - label_most) ≤ no_sum) × Rises (numbers part.old) chosen.sum
         × Room (numbers part.old) message }
     ensures { (numbers part.new ≡ hears (numbers part.old) chosen.head chosen.sum message)
@@ -69,22 +73,22 @@ pub fn hear(part: &mut Part, chosen: Chosen, message: u8) -> Heard
 {
     match message {
         0 => {
-            part.sums[usize::from(chosen.head)] = NO_SUM;
+            part.sums[chosen.head] = NO_SUM;
             Heard::Length
         }
-        1..=LABELS => {
-            if part.marks[usize::from(message)] != 0 {
+        1..=LABEL_MOST => {
+            if part.marks[message] != 0 {
                 return Heard::Label;
             }
             part.fill(Filled {
-                target: message,
-                distance: chosen.sum,
-                hop: chosen.head,
+                target: message as u8,
+                distance: chosen.sum as u8,
+                hop: chosen.head as u8,
             });
             Heard::Label
         }
         _ => {
-            part.sums[usize::from(chosen.head)] = chosen.sum + (message - LABELS);
+            part.sums[chosen.head] = (chosen.sum + (message - LABEL_MOST)) as u8;
             Heard::Length
         }
     }
@@ -96,12 +100,12 @@ pub fn take(state: &mut State, node: usize, chosen: Chosen) -> Heard
     ensures { Stored (cells state.old) node (takes (cells state.old) node chosen.head chosen.sum) (cells state.new)
         × (result ≡ took_of (cells state.old) node chosen.head) }
 {
-    match state.take(node, usize::from(chosen.head)) {
+    match state.take(node, chosen.head) {
         None => {
-            state.parts[node - 1].wait(chosen.sum, chosen.head);
+            state.parts[node - 1].wait(chosen.sum as u8, chosen.head as u8);
             Heard::Nothing
         }
-        Some(message) => hear(&mut state.parts[node - 1], chosen, message),
+        Some(message) => hear(&mut state.parts[node - 1], chosen, usize::from(message)),
     }
 }
 
@@ -114,7 +118,7 @@ pub fn work_from(net: &Network, state: &mut State, node: usize, first: Chosen)
 {
     let mut chosen = first;
     'choose: loop {
-        if state.parts[node - 1].lp + net.layout.lmax < chosen.sum {
+        if usize::from(state.parts[node - 1].lp + net.layout.lmax) < chosen.sum {
             state.parts[node - 1].stop();
             break 'choose;
         }

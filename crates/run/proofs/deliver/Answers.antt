@@ -67,8 +67,8 @@ work_from-requires c =
     ∙ ap phase_number (rw c.places-tail.ensures.0 at c.in-Started.is) in
     let w : m (k + 1) waits_at ≡ h =
     sym for-it ∙ eqb-true (cells s (k + 1) waits_at) h (sym c.waits_for.ensures ∙ c.if-not-waits_for.false) in
-    let sum = sym (ap (λ (f : Part). f (sums_at + h)) (next_part s k blank (omega arith))
-    ∙ sum_is (get_or s.parts k blank) h (omega arith)) in
+    let sum = rw (c.places-tail.ensures.0, c.places-tail.ensures.1) at c.from.ensures
+    ∙ sym (ap (λ (f : Part). f (sums_at + h)) (next_part s k blank (omega arith)) ∙ sum_is (get_or s.parts k blank) h (omega arith)) in
     rw (c.places-tail.ensures.0, c.places-tail.ensures.1) (
       delivery_working g la m p.0 (k + 1) p.1 h p.2 p.3 (cells s) over.ensures up,
       chosen_again g la m p.0 (k + 1) p.1 h p.2 p.3 (cells s) over.ensures up w _ sum,

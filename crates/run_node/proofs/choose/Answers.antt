@@ -1,10 +1,9 @@
 -- `choose`: head by head the least so far of each half, then the lesser of both.
-use mathlib.Core.Path.{◌≡◌, ◌∙◌, sym, ap, ap₂, refl}
+use mathlib.Core.Path.{◌≡◌, ◌∙◌, sym, ap, ap₂}
 use Prim.Native.Nat.{ℕ, ◌+◌, ◌-◌, ◌≤◌}
-use lib.ListN.{get_or}
 use native.Mathlib.Omega.{arith}
 use Rattle.method.specs.Rules.{Choice}
-use Rattle.run_cells.specs.Part.{Part, sums_at, numbers}
+use Rattle.run_cells.specs.Part.{Part, sums_at, no_sum, numbers}
 use Rattle.run_cells.proofs.Loads.{sum_is}
 use Rattle.run_node.specs.declared.Chosen.{Chosen}
 use Rattle.run_node.specs.Rules.{least}
@@ -13,7 +12,10 @@ use Rattle.run_node.proofs.choose.Goals as goal
 
 pub loop-head-init : goal.loop-head-init
 unfolding least after
-loop-head-init c = (refl, refl)
+loop-head-init c =
+    let none : picked (record { sum = c.from.result; head = 0 }) ≡ record { sum = no_sum; head = 0 } =
+    ap (λ (s : ℕ). record { sum = s; head = 0 }) c.from.ensures in
+    (none, none)
 
 pub loop-head-preserved : goal.loop-head-preserved
 loop-head-preserved c =
@@ -25,16 +27,15 @@ loop-head-preserved c =
     let k = h - 1 in
     let up : k + 1 ≡ h = omega arith in
     let again : k + 1 ≡ h + 1 - 1 = omega arith in
-    let x : Chosen = record { sum = get_or p.sums c.from.result 0; head = h } in
-    let y : Chosen = record { sum = get_or p.sums c.from-in-loop-head.result 0; head = 8 + h } in
+    let x : Chosen = record { sum = c.from-in-loop-head.result; head = h } in
+    let y : Chosen = record { sum = c.from-in-loop-head-2.result; head = 8 + h } in
     let ex : picked x ≡ arc_to f (k + 1) =
     ap₂ (λ (s n : ℕ). record { sum = s; head = n })
-    (ap (λ (n : ℕ). get_or p.sums n 0) c.from.ensures ∙ sym (sum_is p h (omega arith)) ∙ ap (λ (n : ℕ). f (sums_at + n)) (sym up))
-    (sym up) in
+    (c.from-in-loop-head.ensures ∙ sym (sum_is p h (omega arith)) ∙ ap (λ (n : ℕ). f (sums_at + n)) (sym up)) (sym up) in
     let ey : picked y ≡ arc_to f (8 + (k + 1)) =
     ap₂ (λ (s n : ℕ). record { sum = s; head = n })
-    (ap (λ (n : ℕ). get_or p.sums n 0) c.from-in-loop-head.ensures ∙ sym (sum_is p (8 + h) (omega arith))
-    ∙ ap (λ (n : ℕ). f (sums_at + (8 + n))) (sym up)) (ap (λ (n : ℕ). 8 + n) (sym up)) in (
+    (c.from-in-loop-head-2.ensures ∙ sym (sum_is p (8 + h) (omega arith)) ∙ ap (λ (n : ℕ). f (sums_at + (8 + n))) (sym up))
+    (ap (λ (n : ℕ). 8 + n) (sym up)) in (
       ap picked c.lesser-low.ensures ∙ lesser_is (least f k) (arc_to f (k + 1)) l.low x l.invariant.0 ex ∙ sym (least_suc f k)
           ∙ ap (least f) again,
       ap picked c.lesser-high.ensures ∙ lesser_is (after f 8 k) (arc_to f (8 + (k + 1))) l.high y l.invariant.1 ey ∙ sym (after_suc f 8 k)

@@ -33,11 +33,11 @@ overflow_add-state c =
       lp_low a.net.now.layout (laid a.net.now) w.0 (cells s) a.node w.1,
     )
 
-pub offset_bounds-state-node-then-state-node : goal.offset_bounds-state-node-then-state-node
-offset_bounds-state-node-then-state-node c = omega (arith, number_low c.args.net.now c.requires.0)
+pub offset_bounds-state-node-then-from-chosen : goal.offset_bounds-state-node-then-from-chosen
+offset_bounds-state-node-then-from-chosen c = omega (arith, number_low c.args.net.now c.requires.0)
 
-pub bounds-state-node-then-state-node : goal.bounds-state-node-then-state-node
-bounds-state-node-then-state-node c = omega (arith, number_low c.args.net.now c.requires.0)
+pub bounds-state-node-then-from-chosen : goal.bounds-state-node-then-from-chosen
+bounds-state-node-then-from-chosen c = omega (arith, number_low c.args.net.now c.requires.0)
 
 pub stop-requires : goal.stop-requires
 stop-requires c =
@@ -116,8 +116,8 @@ choose-preserved c =
       (c.choose-chosen.ensures.0 ∙ ap (λ (p : Choice). p.sum) own, c.choose-chosen.ensures.1 ∙ ap (λ (p : Choice). p.head) own),
     )
 
-pub returns-then-state-node : goal.returns-then-state-node
-returns-then-state-node c =
+pub returns-then-from-chosen : goal.returns-then-from-chosen
+returns-then-from-chosen c =
     let a = c.args in
     let choose = c.choose in
     let s = choose.state in
