@@ -37,3 +37,34 @@ decimal_short (suc k) x h = go (ltb x 10) refl (decimal_short k (x / 10) (omega 
     go : (b : Bool) → ltb x 10 ≡ b → length (decimal (x / 10)) ≤ suc k → length (decimal x) ≤ suc (suc k)
     go true e l = omega (arith, ap length (one_digit x (ltb-true x 10 e)))
     go false e l = omega (arith, ap length (more_digits x (ltb-false x 10 e)), length-append (decimal (x / 10)) (digit (x % 10)))
+
+-- a larger number has no fewer digits
+rises : (k x y : ℕ) → y ≤ k → x ≤ y → length (decimal x) ≤ length (decimal y)
+rises zero x y h l =
+    let same : x ≡ y = omega arith in
+    omega (arith, ap (λ (n : ℕ). length (decimal n)) same)
+rises (suc k) x y h l = go (ltb x 10) (ltb y 10) refl refl (rises k (x / 10) (y / 10) (omega arith) (omega arith))
+  where
+    go : (b c : Bool) → ltb x 10 ≡ b → ltb y 10 ≡ c → length (decimal (x / 10)) ≤ length (decimal (y / 10))
+        → length (decimal x) ≤ length (decimal y)
+    go true true e f r = omega (arith, ap length (one_digit x (ltb-true x 10 e)), ap length (one_digit y (ltb-true y 10 f)))
+    go true false e f r =
+        omega (
+          arith,
+          ap length (one_digit x (ltb-true x 10 e)),
+          ap length (more_digits y (ltb-false y 10 f)),
+          length-append (decimal (y / 10)) (digit (y % 10)),
+        )
+    go false true e f r = omega (arith, ltb-false x 10 e, ltb-true y 10 f)
+    go false false e f r =
+        omega (
+          arith,
+          r,
+          ap length (more_digits x (ltb-false x 10 e)),
+          ap length (more_digits y (ltb-false y 10 f)),
+          length-append (decimal (x / 10)) (digit (x % 10)),
+          length-append (decimal (y / 10)) (digit (y % 10)),
+        )
+
+pub decimal_rises : {x y : ℕ} → x ≤ y → length (decimal x) ≤ length (decimal y)
+decimal_rises {x} {y} l = rises y x y (omega arith) l

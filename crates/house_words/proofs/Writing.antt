@@ -1,7 +1,7 @@
 -- One text written right after another, and a text at the beginning of a room.
 use mathlib.Core.Path.{◌≡◌, ap, ◌∙◌}
 use mathlib.Core.List.{List, ◌++◌}
-use Prim.Native.Nat.{ℕ}
+use Prim.Native.Nat.{ℕ, ◌≤◌}
 use native.Mathlib.Omega.{arith}
 use lib.ListN.{length, length-append}
 use lib.Seq.{length-sets}
@@ -12,6 +12,10 @@ use Rattle.house_words.specs.Writing.{HasRoom, Written}
 -- where two texts have room, the first has
 pub front : {room : List ℕ} {at : ℕ} {a : List ℕ} (b : List ℕ) → HasRoom room at (a ++ b) → HasRoom room at a
 front {a = a} b h = omega (arith, length-append a b)
+
+-- where a text has room, so has another that is no longer
+pub no_longer : {room : List ℕ} {at : ℕ} {a b : List ℕ} → HasRoom room at a → length b ≤ length a → HasRoom room at b
+no_longer h l = omega (arith, h, l)
 
 module _ {room a after : List ℕ} {at next : ℕ} (w : Written room at a after next) {b : List ℕ} where
   -- and the second has after it

@@ -45,8 +45,8 @@ fn bytes_of(m: u8) -> u16
     3 + (12 * u16::from(m) + 7) / 8
 }
 
-// Writes two arcs in the three bytes from p on. That arcs fit their fields is asked for: an `Arc` holds what is refused as well, so its type
-// cannot say it.
+// Writes two arcs in the three bytes from p on. That arcs fit their fields is asked for: an `Arc` holds what is refused as well, so its
+// type cannot say it.
 fn put_pair(room: &mut [u8], p: usize, a: Arc, b: Arc)
     requires { Fits (given a) × Fits (given b) × (p + 2 < length room.old) }
     ensures { room.new ≡ sets room.old p (pair_bytes (given a ∷ given b ∷ [])) }
@@ -95,11 +95,15 @@ fn put_bytes(net: &Network, room: &mut [u8])
 pub fn pack(found: Result<Network, Reason>, room: &mut [u8]) -> Result<u16, Reason>
     ensures { Packs found room.old (written result) room.new }
 {
-    let net = found?;
+    // lent: taken out, the network would be copied once more
+    let net = match &found {
+        Ok(net) => net,
+        Err(reason) => return Err(*reason),
+    };
     let long = bytes_of(net.layout.count);
     if room.len() < usize::from(long) {
         return Err(Reason::RoomTooShort);
     }
-    put_bytes(&net, room);
+    put_bytes(net, room);
     Ok(long)
 }

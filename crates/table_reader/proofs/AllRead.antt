@@ -4,16 +4,21 @@ use mathlib.Core.List.{List}
 use mathlib.Core.Bool.{Bool}
 use mathlib.Core.Option.{Option, none}
 use Prim.Native.Nat.{ℕ}
-use Rattle.std.specs.Prelude.{Result, Err}
+use Rattle.std.specs.Prelude.{Result, Ok, Err}
 use Rattle.bits.specs.Bits.{bits_of}
 use Rattle.method.specs.Entries.{said, find}
 use Rattle.method.specs.Rules.{Filled}
-use Rattle.refusal.specs.Rows.{Refusal}
+use Rattle.refusal.specs.Rows.{Refusal, first}
 use Rattle.table.specs.File.{one}
 use Rattle.table.specs.Reader.{Reading, refused, accepted, reading, refusal, records_in, phase_of, entry_from, entry_read}
+use Rattle.table.specs.Reader.{zero_bit, end_of, body_rows}
+use Rattle.table.specs.Told.{is_marked}
+use Rattle.table.specs.declared.Ending.{Ending}
 use Rattle.table.specs.declared.Header.{Header}
 use Rattle.call.specs.Files.{entries_outcome, table_room}
 use Rattle.table_header.specs.HasHeader.{HasHeader}
+use Rattle.table_records.specs.Parts.{Concludes}
+use Rattle.table_records.proofs.SoundHeader.{is_accepted}
 use Rattle.table_reader.specs.Code.{answered}
 use Rattle.table_reader.specs.Listing.{all_outcome, all_room}
 use Rattle.table.proofs.Walk.{taken_passed}
@@ -28,6 +33,12 @@ pub one_read : (s : List ℕ) (h : Header) (m : Bool) (t : ℕ) (o : Option Fill
     → reading one s ≡ accepted h (records_in one h (bits_of s)) m → o ≡ find t (records_in one h (bits_of s))
     → answered h m t o ≡ entry_read one s t
 one_read s h m t o a q = rw (a, q)
+
+-- where the records end so, and o is what they have for the target
+pub ended_read : (s : List ℕ) (h : Header) → HasHeader s h → (t : ℕ) (o : Option Filled) (ending : Ending)
+    → Concludes (first (body_rows one h (bits_of s))) (zero_bit (bits_of s) (end_of one h (bits_of s))) (Ok ending)
+    → o ≡ find t (records_in one h (bits_of s)) → answered h (is_marked ending) t o ≡ entry_read one s t
+ended_read s h d t o ending k q = one_read s h (is_marked ending) t o (is_accepted s h d ending k) q
 
 -- a refused one leaves the room as it was
 pub none_stored : (s : List ℕ) (r : Refusal) (room : List ℕ) → reading one s ≡ refused r

@@ -3,9 +3,11 @@ use mathlib.Core.Path.{◌∙◌, ap}
 use Rattle.std.specs.Prelude.{Ok, Err}
 use Rattle.method.specs.Entries.{find}
 use Rattle.std.proofs.lemmas.Result.{err_from_is_err_and}
-use Rattle.table_records.proofs.SoundHeader.{header_refuses, is_accepted, records_refuse}
+use Rattle.table_records.proofs.SoundHeader.{header_refuses, records_refuse}
 use Rattle.table_records.proofs.Steps.{steps_nearer, ended, concludes}
-use Rattle.table_reader.proofs.AllRead.{none_read, one_read}
+use Rattle.table.specs.declared.Ending.{Ending}
+use Rattle.table_reader.specs.Code.{found_of}
+use Rattle.table_reader.proofs.AllRead.{none_read, ended_read}
 use Rattle.table_reader.proofs.read_entry.Goals as goal
 
 pub returns-in_err-records : goal.returns-in_err-records
@@ -30,23 +32,36 @@ loop-record-smaller c =
     let next = c.next.ensures in
     steps_nearer c.loop-record.records c.next.new.self next.same _ next.steps _ (c.in_ok-record.was ∙ ap Ok c.in-Some.is)
 
-pub returns-in_err-ending : goal.returns-in_err-ending
-returns-in_err-ending c =
-    let p = err_from_is_err_and c.from_residual-in_err-ending.result c.from_residual-in_err-ending.ensures.1 in
+pub returns-in_err-end : goal.returns-in_err-end
+returns-in_err-end c =
+    let p = err_from_is_err_and c.from_residual-in_err-end.result c.from_residual-in_err-end.ensures.1 in
     let l = c.loop-record in
     let next = c.next.ensures in
-    let end = concludes _ _ _ _ _ next.steps (c.in_ok-record.was ∙ ap Ok c.in_default.is) l.records.walked (Err c.in_err-ending.field-0.0)
-    (rw next.same.0 at c.in_err-ending.ensures) in
+    let end = concludes _ _ _ _ _ next.steps (c.in_ok-record.was ∙ ap Ok c.in_default.is) l.records.walked (Err c.in_err-end.field-0.0)
+    (rw next.same.0 at c.in_err-end.ensures) in
     let refused = records_refuse l.records.file.now l.records.header l.records.sound _ end in
     rw (p.1, p.2) (none_read c.args.file.now _ c.args.target (rw l.invariant.0 at refused))
 
-pub returns : goal.returns
-returns c =
+pub returns-in-Unfinished : goal.returns-in-Unfinished
+returns-in-Unfinished c =
     let l = c.loop-record in
     let next = c.next.ensures in
     let none = c.in_ok-record.was ∙ ap Ok c.in_default.is in
-    let end = concludes _ _ _ _ _ next.steps none l.records.walked (Ok c.in_ok-ending.ending) (rw next.same.0 at c.in_ok-ending.ensures) in
-    let read = is_accepted l.records.file.now l.records.header l.records.sound _ end in
+    let says = rw (next.same.0, c.in-Unfinished.is) at c.in_ok-end.ensures in
+    let end = concludes _ _ _ _ _ next.steps none l.records.walked (Ok Ending.Unfinished) says in
     let all = ended _ _ _ _ _ next.steps none in
-    let told = one_read l.records.file.now l.records.header _ c.args.target _ read (l.invariant.1 ∙ ap (find c.args.target) all.0) in
+    let told = ended_read l.records.file.now l.records.header l.records.sound c.args.target (found_of l.found) Ending.Unfinished end
+    (l.invariant.1 ∙ ap (find c.args.target) all.0) in
     c.entry_by.ensures ∙ rw next.same.1 (rw l.invariant.0 at told)
+
+pub returns-in-Marked : goal.returns-in-Marked
+returns-in-Marked c =
+    let l = c.loop-record in
+    let next = c.next.ensures in
+    let none = c.in_ok-record.was ∙ ap Ok c.in_default.is in
+    let says = rw (next.same.0, c.in-Marked.is) at c.in_ok-end.ensures in
+    let end = concludes _ _ _ _ _ next.steps none l.records.walked (Ok Ending.Marked) says in
+    let all = ended _ _ _ _ _ next.steps none in
+    let told = ended_read l.records.file.now l.records.header l.records.sound c.args.target (found_of l.found) Ending.Marked end
+    (l.invariant.1 ∙ ap (find c.args.target) all.0) in
+    c.entry_by-in-Marked.ensures ∙ rw next.same.1 (rw l.invariant.0 at told)

@@ -1,5 +1,0 @@
--- `number`: the number falls at each call.
-use Rattle.house_words.proofs.Text.+number.Given as goal
-
-abbrev pub decreases-number : goal.decreases-number
-decreases-number l = l.x
