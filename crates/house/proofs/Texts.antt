@@ -4,7 +4,7 @@ use mathlib.Core.List.{List}
 use Prim.Native.Nat.{ℕ, ◌+◌, ◌*◌, ◌≤◌, ◌<◌}
 use native.Mathlib.Nat.{mul-le-mul}
 use native.Mathlib.Omega.{arith}
-use lib.ListN.{length, get_or, drop}
+use lib.ListN.{length, length-append, get_or, drop}
 use borrow.Author.Tests.{le-ltb}
 use Rattle.method.specs.Network.{Net, IsNode}
 use Rattle.method.specs.Steps.{steps}
@@ -33,6 +33,13 @@ use Rattle.house.specs.House.{text_of, text_for}
 -- the same text
 pub same_front : (room after : List ℕ) (r : ℕ) (t u : List ℕ) → t ≡ u → Front room t after r → Front room u after r
 same_front room after r t u e front = subst (λ (t : List ℕ). Front room t after r) e front
+
+-- the text ends within the room
+pub within_room : (room text after : List ℕ) (r : ℕ) → Front room text after r → r ≤ length after
+within_room room text after r front =
+    let all = ap (λ (s : List ℕ). length s) front.holds in
+    let sum = length-append text (drop (length text) room) in
+    omega (arith, front.whole)
 
 -- 13 does not come up: the entries of 16 nodes have room
 module _ (net : Checked) (a : Network) (is : Finds net (Ok a)) where
