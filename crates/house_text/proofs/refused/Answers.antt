@@ -1,5 +1,5 @@
 -- `refused`: the whole line has room, so each part has.
-use Rattle.house_words.proofs.Writing.{front}
+use Rattle.house_words.proofs.Writing.{front, no_longer}
 use Rattle.house_words.proofs.Texts.{fits_after, appends_both, stands_in_front, fits_empty}
 use Rattle.house_text.proofs.Short.{refused_short}
 use native.Mathlib.Omega.{arith}
@@ -10,7 +10,9 @@ pub numbered-requires : goal.numbered-requires
 numbered-requires c = front _ (fits_empty c.new-line.ensures c.requires (refused_short c.args.number (omega arith)))
 
 pub put-requires : goal.put-requires
-put-requires c = fits_after c.numbered.ensures (fits_empty c.new-line.ensures c.requires (refused_short c.args.number (omega arith)))
+put-requires c =
+    let fits = fits_empty c.new-line.ensures c.requires (refused_short c.args.number (omega arith)) in
+    no_longer (fits_after c.numbered.ensures fits) (omega arith)
 
 pub returns : goal.returns
 returns c =
