@@ -1,13 +1,11 @@
 -- `read_entry`: the header's refusals, then what the records tell, by how they end.
 use mathlib.Core.Path.{◌∙◌, ap}
 use Rattle.std.specs.Prelude.{Ok, Err}
-use Rattle.method.specs.Entries.{find}
 use Rattle.std.proofs.lemmas.Result.{err_from_is_err_and}
 use Rattle.table_records.proofs.SoundHeader.{header_refuses, records_refuse}
-use Rattle.table_records.proofs.Steps.{steps_nearer, ended, concludes}
+use Rattle.table_records.proofs.Steps.{steps_nearer, concludes}
 use Rattle.table.specs.declared.Ending.{Ending}
-use Rattle.table_reader.specs.Code.{found_of}
-use Rattle.table_reader.proofs.AllRead.{none_read, ended_read}
+use Rattle.table_reader.proofs.AllRead.{none_read, read_out}
 use Rattle.table_reader.proofs.read_entry.Goals as goal
 
 pub returns-in_err-records : goal.returns-in_err-records
@@ -46,22 +44,14 @@ pub returns-in-Unfinished : goal.returns-in-Unfinished
 returns-in-Unfinished c =
     let l = c.loop-record in
     let next = c.next.ensures in
-    let none = c.in_ok-record.was ∙ ap Ok c.in_default.is in
-    let says = rw (next.same.0, c.in-Unfinished.is) at c.in_ok-end.ensures in
-    let end = concludes _ _ _ _ _ next.steps none l.records.walked (Ok Ending.Unfinished) says in
-    let all = ended _ _ _ _ _ next.steps none in
-    let told = ended_read l.records.file.now l.records.header l.records.sound c.args.target (found_of l.found) Ending.Unfinished end
-    (l.invariant.1 ∙ ap (find c.args.target) all.0) in
-    c.entry_by.ensures ∙ rw next.same.1 (rw l.invariant.0 at told)
+    let told = read_out l.records c.next.new.self next.same _ next.steps (c.in_ok-record.was ∙ ap Ok c.in_default.is) c.args.target l.found
+    l.invariant.1 Ending.Unfinished (rw c.in-Unfinished.is at c.in_ok-end.ensures) in
+    c.entry_by.ensures ∙ rw l.invariant.0 at told
 
 pub returns-in-Marked : goal.returns-in-Marked
 returns-in-Marked c =
     let l = c.loop-record in
     let next = c.next.ensures in
-    let none = c.in_ok-record.was ∙ ap Ok c.in_default.is in
-    let says = rw (next.same.0, c.in-Marked.is) at c.in_ok-end.ensures in
-    let end = concludes _ _ _ _ _ next.steps none l.records.walked (Ok Ending.Marked) says in
-    let all = ended _ _ _ _ _ next.steps none in
-    let told = ended_read l.records.file.now l.records.header l.records.sound c.args.target (found_of l.found) Ending.Marked end
-    (l.invariant.1 ∙ ap (find c.args.target) all.0) in
-    c.entry_by-in-Marked.ensures ∙ rw next.same.1 (rw l.invariant.0 at told)
+    let told = read_out l.records c.next.new.self next.same _ next.steps (c.in_ok-record.was ∙ ap Ok c.in_default.is) c.args.target l.found
+    l.invariant.1 Ending.Marked (rw c.in-Marked.is at c.in_ok-end.ensures) in
+    c.entry_by-in-Marked.ensures ∙ rw l.invariant.0 at told
