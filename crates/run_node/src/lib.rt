@@ -12,7 +12,7 @@ use network::Network;
 use run_cells::*;
 
 // Codes up to this are the end and labels, which are numbers of nodes: `LABELS`, as wide as a code is here.
-const LABEL_MOST: usize = NODES_MOST;
+const LABEL_MOST: usize = LABELS as usize;
 
 // A chosen arc: its sum, and its head. No sum is the number 255, as in `least` of specs/Rules, and not a `None`: a choice is one comparison
 // of two sums. Both are plain numbers, as there; a part keeps them as bytes, to be small.
