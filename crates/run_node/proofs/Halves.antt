@@ -44,7 +44,7 @@ after_suc f b k =
     let e : suc (b + k) ≡ b + (k + 1) = omega arith in
     ap (after f b) (add-one k) ∙ ap (λ (h : ℕ). lesser_of (after f b k) (arc_to f h)) e
 
-none_least : (f : Part) (k : ℕ) → (least f k).sum ≤ no_sum
+pub none_least : (f : Part) (k : ℕ) → (least f k).sum ≤ no_sum
 unfolding least
 none_least f zero = le_refl no_sum
 none_least f (suc k) = go (none_least f k) (ltb (f (sums_at + suc k)) (least f k).sum) refl
@@ -53,6 +53,16 @@ none_least f (suc k) = go (none_least f k) (ltb (f (sums_at + suc k)) (least f k
         → (cond b (arc_to f (suc k)) (least f k)).sum ≤ no_sum
     go ih true e = omega (arith, ltb-true (f (sums_at + suc k)) (least f k).sum e)
     go ih false e = ih
+
+-- its head is 0 or one of those that were looked at
+pub least_head : (f : Part) (k : ℕ) → (least f k).head ≤ k
+unfolding least
+least_head f zero = le_refl 0
+least_head f (suc k) = go (least_head f k) (ltb (f (sums_at + suc k)) (least f k).sum)
+  where
+    go : (least f k).head ≤ k → (b : Bool) → (cond b (arc_to f (suc k)) (least f k)).head ≤ suc k
+    go ih true = le_refl (suc k)
+    go ih false = omega (arith, ih)
 
 -- the lesser of both halves
 pub halves : (f : Part) (b k : ℕ) → least f (b + k) ≡ lesser_of (least f b) (after f b k)

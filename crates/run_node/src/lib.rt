@@ -32,9 +32,9 @@ impl Chosen {
 }
 
 // Rule 1: of a node's arcs the one with the least sum; of equals, the lowest head. Heads 1 to 8 and 9 to 16 side by side, since neither
-// half has to wait for the other.
+// half has to wait for the other. Both numbers fit a byte, which the type of a choice does not say.
 pub fn choose(part: &Part) -> Chosen
-    ensures { IsChoice (numbers part.now) result.sum result.head }
+    ensures { IsChoice (numbers part.now) result.sum result.head × (result.sum ≤ no_sum) × (result.head < table_size) }
 {
     let none = Chosen {
         sum: usize::from(NO_SUM),

@@ -7,7 +7,7 @@ use Rattle.run_cells.specs.Part.{Part, sums_at, no_sum, numbers}
 use Rattle.run_cells.proofs.Loads.{sum_is}
 use Rattle.run_node.specs.declared.Chosen.{Chosen}
 use Rattle.run_node.specs.Rules.{least}
-use Rattle.run_node.proofs.Halves.{arc_to, picked, after, least_suc, after_suc, halves, lesser_is}
+use Rattle.run_node.proofs.Halves.{arc_to, picked, after, least_suc, after_suc, none_least, least_head, halves, lesser_is}
 use Rattle.run_node.proofs.choose.Goals as goal
 
 pub loop-head-init : goal.loop-head-init
@@ -51,4 +51,6 @@ returns c =
     ap picked c.lesser.ensures
     ∙ lesser_is (least f 8) (after f 8 8) l.low l.high (l.invariant.0 ∙ ap (least f) e) (l.invariant.1 ∙ ap (after f 8) e)
     ∙ sym (halves f 8 8) in
-    (ap (λ (p : Choice). p.sum) q, ap (λ (p : Choice). p.head) q)
+    let sum = ap (λ (p : Choice). p.sum) q in
+    let head = ap (λ (p : Choice). p.head) q in
+    ((sum, head), omega (arith, sum, none_least f 16), omega (arith, head, least_head f 16))

@@ -20,5 +20,5 @@ work_from-requires c =
     let low = number_low c.args.net.now c.requires in
     let own = ap (λ (f : Part). least f 16) (sym (own_part s c.args.node blank low.0 (omega (arith, low)))) in (
       c.requires,
-      (c.choose-first.ensures.0 ∙ ap (λ (p : Choice). p.sum) own, c.choose-first.ensures.1 ∙ ap (λ (p : Choice). p.head) own),
+      (c.choose-first.ensures.0.0 ∙ ap (λ (p : Choice). p.sum) own, c.choose-first.ensures.0.1 ∙ ap (λ (p : Choice). p.head) own),
     )

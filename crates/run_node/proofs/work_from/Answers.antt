@@ -113,7 +113,7 @@ choose-preserved c =
       going_trans choose.invariant.0
           (again₁ a.net.now.layout (laid a.net.now) a.node (cells choose.state) (cells take.state) choose.chosen.sum choose.chosen.head
           take.invariant (cells s) heard.result heard.ensures c.in-Length.is (going_working choose.invariant.0 c.requires.0)).0,
-      (c.choose-chosen.ensures.0 ∙ ap (λ (p : Choice). p.sum) own, c.choose-chosen.ensures.1 ∙ ap (λ (p : Choice). p.head) own),
+      (c.choose-chosen.ensures.0.0 ∙ ap (λ (p : Choice). p.sum) own, c.choose-chosen.ensures.0.1 ∙ ap (λ (p : Choice). p.head) own),
     )
 
 pub returns-then-from-chosen : goal.returns-then-from-chosen
