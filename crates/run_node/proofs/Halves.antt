@@ -44,6 +44,7 @@ after_suc f b k =
     let e : suc (b + k) ≡ b + (k + 1) = omega arith in
     ap (after f b) (add-one k) ∙ ap (λ (h : ℕ). lesser_of (after f b k) (arc_to f h)) e
 
+-- the least sum is at most that of no arc
 pub none_least : (f : Part) (k : ℕ) → (least f k).sum ≤ no_sum
 unfolding least
 none_least f zero = le_refl no_sum
@@ -54,7 +55,7 @@ none_least f (suc k) = go (none_least f k) (ltb (f (sums_at + suc k)) (least f k
     go ih true e = omega (arith, ltb-true (f (sums_at + suc k)) (least f k).sum e)
     go ih false e = ih
 
--- its head is 0 or one of those that were looked at
+-- and its head is one of those looked at, or 0
 pub least_head : (f : Part) (k : ℕ) → (least f k).head ≤ k
 unfolding least
 least_head f zero = le_refl 0
